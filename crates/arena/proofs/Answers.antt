@@ -1,0 +1,106 @@
+-- The models of slots, entries and the header, with what the code has read handed in.
+use Prim.Native.Nat.{ℕ, _+_, _-_, _*_, _<_, _≤_}
+use mathlib.Core.Path.{_≡_, sym, _∙_, ap}
+use mathlib.Core.Bool.{Bool, true, false}
+use mathlib.Core.List.{List}
+use native.Mathlib.Omega.{arith}
+use lib.Dec.{eqb}
+use lib.ListN.{length}
+use borrow.Author.Tests.{lt-ltb, le-ltb, le-leb, lt-leb, ltb-true, ltb-false}
+use Rattle.handle.specs.declared.Generation.{Generation}
+use Rattle.handle.specs.declared.Handle.{Handle}
+use Rattle.handle.specs.declared.Refusal.the-variants.{BadLayout}
+use Rattle.arena.specs.Keys.{signed}
+use Rattle.arena.specs.Words.{limit, topLimit, headWords, need, field, put, head, putHead, KEY, RANK, GENERATION, VALUE, STACK, CAPACITY, TOP, HEIGHT}
+use Rattle.arena.specs.Header.{headerOf, Passing}
+use Rattle.arena.specs.Laying.{goodLayout, Good, freshHead, laySlots, laid, layOut}
+use Rattle.arena.specs.Slots.{handleOf, takeAt, takeFrom, takeSlot, freeWith, freeSlot}
+use Rattle.arena.specs.Entries.{isLive, entryOf}
+use Rattle.arena.specs.declared.header.Header.the-variants.{Passes, Fails}
+use Rattle.arena.specs.declared.laying.LaidOut.{LaidOut}
+use Rattle.arena.specs.declared.laying.LaidOut.the-variants.{Done, Refused}
+use Rattle.arena.specs.declared.slots.Taken.{Taken}
+use Rattle.arena.specs.declared.slots.Taken.the-variants.{At}
+use Rattle.arena.specs.declared.slots.Freed.{Freed}
+use Rattle.arena.specs.declared.entries.Entry.{Entry}
+use Rattle.arena.proofs.Paths.{no-refusal}
+
+-- the header's capacity, as read
+module _ (s : List ℕ) (cap : ℕ) (e : cap ≡ head s CAPACITY) (long : headWords ≤ length s) (some : 1 ≤ cap) (few : cap ≤ limit) where
+  pub header-short : length s < need cap → Fails ≡ headerOf s
+  unfolding headerOf
+  header-short h = rw (← e, le-ltb (length s) headWords long, le-ltb cap 1 some, le-ltb limit cap few, lt-ltb (length s) (need cap) h)
+
+  pub header-passes : need cap ≤ length s → Passes cap ≡ headerOf s
+  unfolding headerOf
+  header-passes h = rw (← e, le-ltb (length s) headWords long, le-ltb cap 1 some, le-ltb limit cap few, le-ltb (length s) (need cap) h)
+
+  pub passing : need cap ≤ length s → Passing s cap
+  passing h = record { capacity = sym e; some = some; few = few; room = h }
+
+module _ (s : List ℕ) (cap : ℕ) where
+  pub take-reads : (x : List ℕ × Taken) (h : ℕ) → h ≡ head s HEIGHT → x ≡ takeFrom s cap h → x ≡ takeSlot s cap
+  unfolding takeSlot
+  take-reads x h e p = rw (← e) p
+
+  pub take-slot : (x : List ℕ × Taken) (p i : ℕ) → i ≡ field s cap p STACK → x ≡ takeAt s cap p i → x ≡ takeAt s cap p (field s cap p STACK)
+  take-slot x p i e q = rw (← e) q
+
+  pub free-reads : (i : ℕ) (x : List ℕ × Freed) (h top g : ℕ) → h ≡ head s HEIGHT → top ≡ head s TOP → g ≡ field s cap i GENERATION
+      → x ≡ freeWith s cap i h top g → x ≡ freeSlot s cap i
+  unfolding freeSlot
+  free-reads i x h top g e f k p = rw (← e, ← f, ← k) p
+
+module _ (s : List ℕ) (cap : ℕ) (h : Handle) (low : h .slot .0 < cap) (r : ℕ) (e : r ≡ field s cap (h .slot .0) RANK) where
+  pub live-dead : r < 1 → false ≡ isLive s cap h
+  unfolding isLive
+  live-dead l = rw (← e, lt-leb cap (h .slot .0) low, lt-ltb r 1 l)
+
+  pub live-asks : 1 ≤ r → (g : ℕ) → g ≡ field s cap (h .slot .0) GENERATION → (t : Bool) → t ≡ eqb g (h .generation .0) → t ≡ isLive s cap h
+  unfolding isLive
+  live-asks l g f t q = rw (← e, ← f, lt-leb cap (h .slot .0) low, le-ltb r 1 l) q
+
+pub entry-reads : (s : List ℕ) (cap i : ℕ) (r : Entry) (w : ℕ) → w ≡ field s cap i KEY → r .key .0 ≡ signed w → r .value ≡ field s cap i VALUE → r ≡ entryOf s cap i
+unfolding entryOf
+entry-reads s cap i r w e k v = λ j. record { key = record { 0 = (k ∙ ap signed e) j }; value = v j }
+
+-- what the test of a layout says
+pub good-yes : (len cap top : ℕ) → goodLayout len cap top ≡ true → Good len cap top
+unfolding goodLayout
+good-yes len cap top t =
+    let a = no-refusal _ _ t in
+    let b = no-refusal _ _ (a .1) in
+    let c = no-refusal _ _ (b .1) in
+    let d = no-refusal _ _ (c .1) in
+    let e = no-refusal _ _ (d .1) in
+    record {
+      some = ltb-false cap 1 (a .0);
+      few = ltb-false limit cap (b .0);
+      top-some = ltb-false top 1 (c .0);
+      top-few = ltb-false topLimit top (d .0);
+      room = ltb-false len (need cap) (e .0);
+    }
+
+pub good-is : (len cap top : ℕ) → Good len cap top → goodLayout len cap top ≡ true
+unfolding goodLayout
+good-is len cap top g =
+    rw (le-ltb cap 1 (g .some), le-ltb limit cap (g .few), le-ltb top 1 (g .top-some), le-ltb topLimit top (g .top-few), le-ltb len (need cap) (g .room))
+
+module _ (s : List ℕ) (cap top : ℕ) where
+  pub lay-done : goodLayout (length s) cap top ≡ true → (t u : List ℕ) → t ≡ freshHead s cap top → u ≡ laySlots cap t cap → _≡_ {A = List ℕ × LaidOut} (u, Done) (layOut s cap top)
+  unfolding layOut laid
+  lay-done g t u e f = rw (g, f, e)
+
+  pub lay-refused : goodLayout (length s) cap top ≡ false → _≡_ {A = List ℕ × LaidOut} (s, Refused BadLayout) (layOut s cap top)
+  unfolding layOut
+  lay-refused g = rw g
+
+-- a handle by its parts
+pub handle-is : (r : Handle) (i g g′ : ℕ) → r .slot ≡ record { 0 = i } → r .generation ≡ record { 0 = g } → g ≡ g′ → r ≡ handleOf i g′
+handle-is r i g g′ e f k = λ j. record { slot = e j; generation = (f ∙ ap {B = Generation} (λ x. record { 0 = x }) k) j }
+
+pub took : (x y : List ℕ) (h h′ : Handle) → x ≡ y → h ≡ h′ → _≡_ {A = List ℕ × Taken} (x, At h) (y, At h′)
+took x y h h′ e f = cc
+
+pub took-in : (cap i g : ℕ) (h : Handle) → h ≡ handleOf i g → i < cap → h .slot .0 < cap
+took-in cap i g h e l = rw e l

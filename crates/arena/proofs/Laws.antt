@@ -1,0 +1,61 @@
+-- The laws of the words: all that anything above knows of `field`, `put`, `head` and `putHead`.
+-- A write is seen in its own place and nowhere else, and keeps the length. No law shows where a field stands.
+use Prim.Native.Nat.{ℕ, _+_, _*_, _<_, _≤_}
+use mathlib.Core.Path.{_≡_, sym}
+use mathlib.Core.List.{List}
+use native.Mathlib.Omega.{arith}
+use lib.ListN.{length, getD, set, length-set}
+use lib.Seq.{getD-set-same, getD-set-other}
+use Rattle.arena.specs.Words.{need, Room, headWords, fields, place, field, put, head, putHead}
+use Rattle.arena.proofs.Places.{Within, place-within, place-one}
+
+pub length-put : (s : List ℕ) (cap i f v : ℕ) → length (put s cap i f v) ≡ length s
+unfolding put
+length-put s cap i f v = length-set s (place cap i f) v
+
+pub length-putHead : (s : List ℕ) (h v : ℕ) → length (putHead s h v) ≡ length s
+unfolding putHead
+length-putHead s h v = length-set s h v
+
+module _ (s : List ℕ) (cap i f v : ℕ) (hi : i < cap) (hf : f < fields) where
+  pub field-same : Room s cap → field (put s cap i f v) cap i f ≡ v
+  unfolding put field
+  field-same room = let w = place-within cap i f hi hf in getD-set-same s (place cap i f) v 0 (omega arith)
+
+  -- of another slot, whatever the fields
+  pub field-slot : (j g : ℕ) → j < cap → g < fields → (j ≡ i → ⊥) → field (put s cap i f v) cap j g ≡ field s cap j g
+  unfolding put field
+  field-slot j g hj hg ne =
+      getD-set-other s (place cap i f) (place cap j g) v 0 (λ e. let p = place-one cap j g i f hj hi hg hf e in ne (p .0))
+
+  -- another field, of whatever slot
+  pub field-off : (j g : ℕ) → j < cap → g < fields → (g ≡ f → ⊥) → field (put s cap i f v) cap j g ≡ field s cap j g
+  unfolding put field
+  field-off j g hj hg ne =
+      getD-set-other s (place cap i f) (place cap j g) v 0 (λ e. let p = place-one cap j g i f hj hi hg hf e in ne (p .1))
+
+  pub head-put : (h : ℕ) → h < headWords → head (put s cap i f v) h ≡ head s h
+  unfolding put head
+  head-put h hh = let w = place-within cap i f hi hf in getD-set-other s (place cap i f) h v 0 (λ e. omega arith)
+
+  -- past what the capacity needs
+  pub rest-put : (k : ℕ) → need cap ≤ k → getD (put s cap i f v) k 0 ≡ getD s k 0
+  unfolding put
+  rest-put k hk = let w = place-within cap i f hi hf in getD-set-other s (place cap i f) k v 0 (λ e. omega arith)
+
+module _ (s : List ℕ) (h v : ℕ) (hh : h < headWords) where
+  pub head-same : Room s 0 → head (putHead s h v) h ≡ v
+  unfolding putHead head
+  head-same room = getD-set-same s h v 0 (omega arith)
+
+  pub head-other : (g : ℕ) → (g ≡ h → ⊥) → head (putHead s h v) g ≡ head s g
+  unfolding putHead head
+  head-other g ne = getD-set-other s h g v 0 ne
+
+  pub field-putHead : (cap i f : ℕ) → i < cap → f < fields → field (putHead s h v) cap i f ≡ field s cap i f
+  unfolding putHead field
+  field-putHead cap i f hi hf = let w = place-within cap i f hi hf in getD-set-other s h (place cap i f) v 0 (λ e. omega arith)
+
+  pub rest-putHead : (cap k : ℕ) → need cap ≤ k → getD (putHead s h v) k 0 ≡ getD s k 0
+  unfolding putHead
+  rest-putHead cap k hk = getD-set-other s h k v 0 (λ e. omega arith)

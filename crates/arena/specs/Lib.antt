@@ -1,0 +1,8 @@
+pub mod Branch
+pub mod Words
+pub mod Agree
+pub mod Keys
+pub mod Header
+pub mod Laying
+pub mod Slots
+pub mod Entries
