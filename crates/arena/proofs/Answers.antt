@@ -14,16 +14,21 @@ use Rattle.arena.specs.Keys.{signed}
 use Rattle.arena.specs.Words.{limit, topLimit, headWords, need, field, put, head, putHead, KEY, RANK, GENERATION, VALUE, STACK, CAPACITY, TOP, HEIGHT}
 use Rattle.arena.specs.Header.{headerOf, Passing}
 use Rattle.arena.specs.Laying.{goodLayout, Good, freshHead, laySlots, laid, layOut}
-use Rattle.arena.specs.Slots.{handleOf, takeAt, takeFrom, takeSlot, freeWith, freeSlot}
+use Rattle.arena.specs.Slots.{FoundIn, handleOf, foundAt, peekFrom, peekSlot, popped, takeSlot, freeWith, freeSlot}
 use Rattle.arena.specs.Entries.{isLive, entryOf}
 use Rattle.arena.specs.declared.header.Header.the-variants.{Passes, Fails}
 use Rattle.arena.specs.declared.laying.LaidOut.{LaidOut}
 use Rattle.arena.specs.declared.laying.LaidOut.the-variants.{Done, Refused}
 use Rattle.arena.specs.declared.slots.Taken.{Taken}
-use Rattle.arena.specs.declared.slots.Taken.the-variants.{At}
+use Rattle.arena.specs.declared.slots.Taken as T
+use Rattle.arena.specs.declared.slots.Taken.the-variants.{At, Full}
 use Rattle.arena.specs.declared.slots.Freed.{Freed}
 use Rattle.arena.specs.declared.entries.Entry.{Entry}
-use Rattle.arena.proofs.Paths.{no-refusal}
+use Rattle.arena.proofs.Paths.{no-refusal, wrote}
+
+-- a handle by its parts
+pub handle-is : (r : Handle) (i g g′ : ℕ) → r .slot ≡ record { 0 = i } → r .generation ≡ record { 0 = g } → g ≡ g′ → r ≡ handleOf i g′
+handle-is r i g g′ e f k = λ j. record { slot = e j; generation = (f ∙ ap {B = Generation} (λ x. record { 0 = x }) k) j }
 
 -- the header's capacity, as read
 module _ (s : List ℕ) (cap : ℕ) (e : cap ≡ head s CAPACITY) (long : headWords ≤ length s) (some : 1 ≤ cap) (few : cap ≤ limit) where
@@ -39,12 +44,45 @@ module _ (s : List ℕ) (cap : ℕ) (e : cap ≡ head s CAPACITY) (long : headWo
   passing h = record { capacity = sym e; some = some; few = few; room = h }
 
 module _ (s : List ℕ) (cap : ℕ) where
-  pub take-reads : (x : List ℕ × Taken) (h : ℕ) → h ≡ head s HEIGHT → x ≡ takeFrom s cap h → x ≡ takeSlot s cap
-  unfolding takeSlot
-  take-reads x h e p = rw (← e) p
+  pub peek-reads : (x : Taken) (h : ℕ) → h ≡ head s HEIGHT → x ≡ peekFrom s cap h → x ≡ peekSlot s cap
+  unfolding peekSlot
+  peek-reads x h e p = rw (← e) p
 
-  pub take-slot : (x : List ℕ × Taken) (p i : ℕ) → i ≡ field s cap p STACK → x ≡ takeAt s cap p i → x ≡ takeAt s cap p (field s cap p STACK)
-  take-slot x p i e q = rw (← e) q
+  pub peek-slot : (x : Taken) (p i : ℕ) → i ≡ field s cap p STACK → x ≡ foundAt s cap i → x ≡ foundAt s cap (field s cap p STACK)
+  peek-slot x p i e q = rw (← e) q
+
+  pub peek-at : (i : ℕ) (r : Handle) (g : ℕ) → i < cap → r .slot ≡ record { 0 = i } → r .generation ≡ record { 0 = g } → g ≡ field s cap i GENERATION
+      → At r ≡ foundAt s cap i
+  unfolding foundAt
+  peek-at i r g l e f k = rw (lt-leb cap i l) (ap At (handle-is r i g _ e f k))
+
+  -- what `take` knows after the match on what was found
+  module _ (r : Taken) (is : r ≡ peekSlot s cap) where
+    pub take-at : (h : Handle) (p : ℕ) (x : List ℕ) → r ≡ At h → p ≡ head s HEIGHT → x ≡ popped s cap (p - 1)
+        → _≡_ {A = List ℕ × Taken} (x, At h) (takeSlot s cap)
+    unfolding takeSlot
+    take-at h p x e f q = rw (← is, e, ← f) (wrote _ _ _ q)
+
+    pub take-full : r ≡ Full → _≡_ {A = List ℕ × Taken} (s, Full) (takeSlot s cap)
+    unfolding takeSlot
+    take-full e = rw (← is, e)
+
+    pub take-unsound : r ≡ T.the-variants.NotSound → _≡_ {A = List ℕ × Taken} (s, T.the-variants.NotSound) (takeSlot s cap)
+    unfolding takeSlot
+    take-unsound e = rw (← is, e)
+
+  module _ (r : Taken) (lies : FoundIn s cap r) (h : Handle) (e : r ≡ At h) where
+    found-as : FoundIn s cap (At h)
+    found-as = rw e at lies
+
+    pub found-low : (p : ℕ) → p ≡ head s HEIGHT → 1 ≤ p
+    found-low p f = let g = found-as in rw f (g .1)
+
+    pub found-place : (p : ℕ) → p ≡ head s HEIGHT → p - 1 < cap
+    found-place p f = let g = found-as in rw f (omega arith)
+
+    pub found-slot : h .slot .0 < cap
+    found-slot = found-as .0
 
   pub free-reads : (i : ℕ) (x : List ℕ × Freed) (h top g : ℕ) → h ≡ head s HEIGHT → top ≡ head s TOP → g ≡ field s cap i GENERATION
       → x ≡ freeWith s cap i h top g → x ≡ freeSlot s cap i
@@ -95,12 +133,5 @@ module _ (s : List ℕ) (cap top : ℕ) where
   unfolding layOut
   lay-refused g = rw g
 
--- a handle by its parts
-pub handle-is : (r : Handle) (i g g′ : ℕ) → r .slot ≡ record { 0 = i } → r .generation ≡ record { 0 = g } → g ≡ g′ → r ≡ handleOf i g′
-handle-is r i g g′ e f k = λ j. record { slot = e j; generation = (f ∙ ap {B = Generation} (λ x. record { 0 = x }) k) j }
-
-pub took : (x y : List ℕ) (h h′ : Handle) → x ≡ y → h ≡ h′ → _≡_ {A = List ℕ × Taken} (x, At h) (y, At h′)
-took x y h h′ e f = cc
-
-pub took-in : (cap i g : ℕ) (h : Handle) → h ≡ handleOf i g → i < cap → h .slot .0 < cap
-took-in cap i g h e l = rw e l
+pub found-in : (s : List ℕ) (cap h i : ℕ) (r : Handle) → h ≡ head s HEIGHT → 1 ≤ h → h ≤ cap → r .slot ≡ record { 0 = i } → i < cap → FoundIn s cap (At r)
+found-in s cap h i r e l m k n = (rw k n, rw (← e) l, rw (← e) m)

@@ -20,25 +20,37 @@ use Rattle.arena.specs.declared.slots.Freed as F
 abbrev pub handleOf : ℕ → ℕ → Handle
 handleOf i g = record { slot = record { 0 = i }; generation = record { 0 = g } }
 
+-- the slot i, found at the top of the stack
+unfoldable pub foundAt : List ℕ → ℕ → ℕ → Taken
+foundAt s cap i = ifte (leb cap i) T.the-variants.NotSound (At (handleOf i (field s cap i GENERATION)))
+
+-- the slot freed last, by the height h of the stack
+unfoldable pub peekFrom : List ℕ → ℕ → ℕ → Taken
+peekFrom s cap h =
+    ifte (ltb h 1) Full
+    (ifte (ltb cap h) T.the-variants.NotSound
+    (foundAt s cap (field s cap (h - 1) STACK)))
+
+unfoldable pub peekSlot : List ℕ → ℕ → Taken
+peekSlot s cap = peekFrom s cap (head s HEIGHT)
+
 -- the stack without its top, whose place is p
 unfoldable pub popped : List ℕ → ℕ → ℕ → List ℕ
 popped s cap p = putHead (put s cap p STACK noSlot) HEIGHT p
 
--- the slot i stands at place p of the stack, its top
-unfoldable pub takeAt : List ℕ → ℕ → ℕ → ℕ → List ℕ × Taken
-takeAt s cap p i =
-    ifte (leb cap i) (s, T.the-variants.NotSound)
-    (popped s cap p, At (handleOf i (field s cap i GENERATION)))
-
--- by the height h of the stack
-unfoldable pub takeFrom : List ℕ → ℕ → ℕ → List ℕ × Taken
-takeFrom s cap h =
-    ifte (ltb h 1) (s, Full)
-    (ifte (ltb cap h) (s, T.the-variants.NotSound)
-    (takeAt s cap (h - 1) (field s cap (h - 1) STACK)))
+abbrev pub takenAs : List ℕ → ℕ → Taken → List ℕ × Taken
+takenAs s cap (At h) = (popped s cap (head s HEIGHT - 1), At h)
+takenAs s cap Full = (s, Full)
+takenAs s cap T.the-variants.NotSound = (s, T.the-variants.NotSound)
 
 unfoldable pub takeSlot : List ℕ → ℕ → List ℕ × Taken
-takeSlot s cap = takeFrom s cap (head s HEIGHT)
+takeSlot s cap = takenAs s cap (peekSlot s cap)
+
+-- a slot that was found lies in the store, and the stack is no higher than it can be
+abbrev pub FoundIn : List ℕ → ℕ → Taken → Type 0
+FoundIn s cap (At h) = (h .slot .0 < cap) × (1 ≤ head s HEIGHT) × (head s HEIGHT ≤ cap)
+FoundIn s cap Full = Unit {0}
+FoundIn s cap T.the-variants.NotSound = Unit {0}
 
 -- a slot that was taken lies in the store
 abbrev pub TakenIn : ℕ → Taken → Type 0

@@ -2,8 +2,8 @@
 // From the Rust: the free list of arena/base_arena.rs, with a generation for each slot.
 ghost use mathlib.Core.Path.{_≡_};
 ghost use Prim.Native.Nat.{_<_, _≤_};
-ghost use Rattle.arena.specs.Words.{Room, field as fieldOf, GENERATION as nGENERATION};
-ghost use Rattle.arena.specs.Slots.{handleOf, popped, takeSlot, TakenIn, pushed, freeSlot};
+ghost use Rattle.arena.specs.Words.{Room};
+ghost use Rattle.arena.specs.Slots.{FoundIn, peekSlot, popped, takeSlot, TakenIn, pushed, freeSlot};
 use crate::laying;
 use crate::words;
 use crate::words::GENERATION;
@@ -26,25 +26,11 @@ pub enum Freed {
     NotSound,
 }
 
-// The slot i leaves the stack, whose top place p it has.
-fn pop(s: &mut [u64], cap: u64, p: u64, i: u64) -> Handle
+// What `take` would answer, with nothing taken.
+pub fn peek(s: &[u64], cap: u64) -> Taken
     requires { ⌜ Room (now s) cap ⌝ }
-    requires { ⌜ p < cap ⌝ }
-    requires { ⌜ i < cap ⌝ }
-    ensures { λ r. ⌜ now (s .exit) ≡ popped (now (s .entry)) cap p ⌝ }
-    ensures { λ r. ⌜ r ≡ handleOf i (fieldOf (now (s .entry)) cap i nGENERATION) ⌝ }
-{
-    let g = words::field(s, cap, i, GENERATION);
-    words::put(s, cap, p, STACK, Handle::NO_SLOT);
-    words::put_head(s, HEIGHT, p);
-    Handle::new(Slot(i), Generation(g))
-}
-
-// Takes the slot that was freed last. Its fields other than the stack's are left to the caller.
-pub fn take(s: &mut [u64], cap: u64) -> Taken
-    requires { ⌜ Room (now s) cap ⌝ }
-    ensures { λ r. ⌜ (now (s .exit), r) ≡ takeSlot (now (s .entry)) cap ⌝ }
-    ensures { λ r. ⌜ TakenIn cap r ⌝ }
+    ensures { λ r. ⌜ r ≡ peekSlot (now (s .entry)) cap ⌝ }
+    ensures { λ r. ⌜ FoundIn (now (s .entry)) cap r ⌝ }
 {
     let h = words::head(s, HEIGHT);
     if h < 1 {
@@ -57,7 +43,40 @@ pub fn take(s: &mut [u64], cap: u64) -> Taken
     if cap <= i {
         return Taken::NotSound;
     }
-    Taken::At(pop(s, cap, h - 1, i))
+    let g = words::field(s, cap, i, GENERATION);
+    Taken::At(Handle::new(Slot(i), Generation(g)))
+}
+
+// The stack loses its top, whose place is p.
+fn pop(s: &mut [u64], cap: u64, p: u64)
+    requires { ⌜ Room (now s) cap ⌝ }
+    requires { ⌜ p < cap ⌝ }
+    ensures { λ _. ⌜ now (s .exit) ≡ popped (now (s .entry)) cap p ⌝ }
+{
+    words::put(s, cap, p, STACK, Handle::NO_SLOT);
+    words::put_head(s, HEIGHT, p);
+}
+
+// Takes the slot that was freed last. Its fields other than the stack's are left to the caller.
+pub fn take(s: &mut [u64], cap: u64) -> Taken
+    requires { ⌜ Room (now s) cap ⌝ }
+    ensures { λ r. ⌜ (now (s .exit), r) ≡ takeSlot (now (s .entry)) cap ⌝ }
+    ensures { λ r. ⌜ TakenIn cap r ⌝ }
+{
+    let found = peek(s, cap);
+    match found {
+        Taken::At(h) => {
+            let p = words::head(s, HEIGHT) - 1;
+            pop(s, cap, p);
+            return Taken::At(h);
+        }
+        Taken::Full => {
+            return Taken::Full;
+        }
+        Taken::NotSound => {
+            return Taken::NotSound;
+        }
+    }
 }
 
 // The slot i goes on the stack at height h, in the generation after g.

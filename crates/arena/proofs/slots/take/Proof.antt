@@ -1,59 +1,62 @@
-use Rattle.arena.specs.Slots.{takeAt, takeFrom}
-use Rattle.arena.proofs.Paths.{paths}
-use Rattle.arena.proofs.Answers.{take-reads, take-slot, took, took-in}
+use native.Mathlib.Omega.{arith}
+use Rattle.arena.proofs.Answers.{take-at, take-full, take-unsound, found-low, found-place, found-slot}
 use borrow.Author.Needs.{needs}
 use Rattle.arena.proofs.slots.take.Statement.{statement}
 use Rattle.arena.proofs.slots.take.Tie as tie
 
+peek-requires : tie.Need-peek-requires
+peek-requires c κs = search needs
+
+enum-known-found : tie.Need-enum-known-found
+enum-known-found c = search needs
+
 head-requires : tie.Need-head-requires
 head-requires c κs = search needs
+
+sub-p : tie.Need-sub-p
+sub-p c = search found-low
+
+pop-requires : tie.Need-pop-requires
+pop-requires c κs = (omega arith, search found-place)
 
 same-length : tie.Need-same-length
 same-length c = search needs
 
 returns : tie.Need-returns
-unfolding takeFrom takeAt
-returns c = search (take-reads, take-slot, paths) depth 12
+returns c = (search take-at, search found-slot)
+
+enum-told : tie.Need-enum-told
+enum-told c = search needs
 
 same-length-2 : tie.Need-same-length-2
 same-length-2 c = search needs
 
 returns-2 : tie.Need-returns-2
-unfolding takeFrom takeAt
-returns-2 c = search (take-reads, take-slot, paths) depth 12
+returns-2 c = (search take-full, tt)
 
-field-requires : tie.Need-field-requires
-field-requires c κs = search needs
+enum-told-2 : tie.Need-enum-told-2
+enum-told-2 c = search needs
 
 same-length-3 : tie.Need-same-length-3
 same-length-3 c = search needs
 
 returns-3 : tie.Need-returns-3
-unfolding takeFrom takeAt
-returns-3 c = search (take-reads, take-slot, paths) depth 12
-
-pop-requires : tie.Need-pop-requires
-pop-requires c κs = search needs
-
-same-length-4 : tie.Need-same-length-4
-same-length-4 c = search needs
-
-returns-4 : tie.Need-returns-4
-unfolding takeFrom takeAt
-returns-4 c = (search (take-reads, take-slot, took, paths) depth 12, search took-in)
+returns-3 c = (search take-unsound, tt)
 
 pub take-spec : {M : Type 1} → statement M
 take-spec =
     tie.close
     (tie.spec
+    peek-requires
+    enum-known-found
     head-requires
+    sub-p
+    pop-requires
     same-length
     returns
+    enum-told
     same-length-2
     returns-2
-    field-requires
+    enum-told-2
     same-length-3
-    returns-3
-    pop-requires
-    same-length-4
-    returns-4)
+    returns-3)
