@@ -11,11 +11,12 @@ use Rattle.handle.specs.declared.Generation.{Generation}
 use Rattle.handle.specs.declared.Handle.{Handle}
 use Rattle.handle.specs.declared.Refusal.the-variants.{BadLayout}
 use Rattle.arena.specs.Keys.{signed}
-use Rattle.arena.specs.Words.{limit, topLimit, headWords, need, field, put, head, putHead, KEY, RANK, GENERATION, VALUE, STACK, CAPACITY, TOP, HEIGHT}
-use Rattle.arena.specs.Header.{headerOf, Passing}
+use Rattle.arena.specs.Words.{limit, topLimit, headWords, need, Room, field, put, head, putHead, KEY, RANK, GENERATION, VALUE, STACK, CAPACITY, TOP, HEIGHT}
+use Rattle.arena.specs.Header.{headerOf, Passing, Says}
 use Rattle.arena.specs.Laying.{goodLayout, Good, freshHead, laySlots, laid, layOut}
 use Rattle.arena.specs.Slots.{FoundIn, handleOf, foundAt, peekFrom, peekSlot, popped, takeSlot, freeWith, freeSlot}
 use Rattle.arena.specs.Entries.{isLive, entryOf}
+use Rattle.arena.specs.declared.header.Header.{Header}
 use Rattle.arena.specs.declared.header.Header.the-variants.{Passes, Fails}
 use Rattle.arena.specs.declared.laying.LaidOut.{LaidOut}
 use Rattle.arena.specs.declared.laying.LaidOut.the-variants.{Done, Refused}
@@ -135,3 +136,7 @@ module _ (s : List ℕ) (cap top : ℕ) where
 
 pub found-in : (s : List ℕ) (cap h i : ℕ) (r : Handle) → h ≡ head s HEIGHT → 1 ≤ h → h ≤ cap → r .slot ≡ record { 0 = i } → i < cap → FoundIn s cap (At r)
 found-in s cap h i r e l m k n = (rw k n, rw (← e) l, rw (← e) m)
+
+-- what a caller knows after the header test passed
+pub passes-room : (s : List ℕ) (r : Header) (cap : ℕ) → Says s r → r ≡ Passes cap → Room s cap
+passes-room s r cap says e = let p : Passing s cap = rw e at says in p .room

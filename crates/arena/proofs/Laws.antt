@@ -3,7 +3,9 @@
 use Prim.Native.Nat.{ℕ, _+_, _*_, _<_, _≤_}
 use mathlib.Core.Path.{_≡_, sym}
 use mathlib.Core.List.{List}
+use mathlib.Core.Bool.{not}
 use native.Mathlib.Omega.{arith}
+use lib.Dec.{T, eqb, T-not, eqb-refl}
 use lib.ListN.{length, getD, set, length-set}
 use lib.Seq.{getD-set-same, getD-set-other}
 use Rattle.arena.specs.Words.{need, Room, headWords, fields, place, field, put, head, putHead}
@@ -16,6 +18,10 @@ length-put s cap i f v = length-set s (place cap i f) v
 pub length-putHead : (s : List ℕ) (h v : ℕ) → length (putHead s h v) ≡ length s
 unfolding putHead
 length-putHead s h v = length-set s h v
+
+-- two numerals that differ: `lit≢ tt`
+pub lit≢ : {m n : ℕ} → T (not (eqb m n)) → m ≡ n → ⊥
+lit≢ {m} {n} t e = T-not (eqb m n) t (rw (← e) (eqb-refl m))
 
 module _ (s : List ℕ) (cap i f v : ℕ) (hi : i < cap) (hf : f < fields) where
   pub field-same : Room s cap → field (put s cap i f v) cap i f ≡ v
@@ -43,6 +49,10 @@ module _ (s : List ℕ) (cap i f v : ℕ) (hi : i < cap) (hf : f < fields) where
   unfolding put
   rest-put k hk = let w = place-within cap i f hi hf in getD-set-other s (place cap i f) k v 0 (λ e. omega arith)
 
+-- the same for a store behind other writes: its length is that of the store with room, which `simp length-put` shows
+pub field-at : (cap n : ℕ) → need cap ≤ n → (s : List ℕ) (i f v : ℕ) → i < cap → f < fields → length s ≡ n → field (put s cap i f v) cap i f ≡ v
+field-at cap n room s i f v hi hf e = field-same s cap i f v hi hf (rw e room)
+
 module _ (s : List ℕ) (h v : ℕ) (hh : h < headWords) where
   pub head-same : Room s 0 → head (putHead s h v) h ≡ v
   unfolding putHead head
@@ -56,6 +66,10 @@ module _ (s : List ℕ) (h v : ℕ) (hh : h < headWords) where
   unfolding putHead field
   field-putHead cap i f hi hf = let w = place-within cap i f hi hf in getD-set-other s h (place cap i f) v 0 (λ e. omega arith)
 
-  pub rest-putHead : (cap k : ℕ) → need cap ≤ k → getD (putHead s h v) k 0 ≡ getD s k 0
+  -- behind the header
+  pub rest-putHead : (k : ℕ) → headWords ≤ k → getD (putHead s h v) k 0 ≡ getD s k 0
   unfolding putHead
-  rest-putHead cap k hk = getD-set-other s h k v 0 (λ e. omega arith)
+  rest-putHead k hk = getD-set-other s h k v 0 (λ e. omega arith)
+
+pub head-at : (n : ℕ) → need 0 ≤ n → (s : List ℕ) (h v : ℕ) → h < headWords → length s ≡ n → head (putHead s h v) h ≡ v
+head-at n room s h v hh e = head-same s h v hh (rw e room)

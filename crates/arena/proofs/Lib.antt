@@ -6,3 +6,5 @@ pub mod Laws
 pub mod OneStore
 pub mod Turns
 pub mod Answers
+pub mod FreshStore
+pub mod Theorems

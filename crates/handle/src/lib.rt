@@ -2,7 +2,7 @@
 // Each is a type of its own, so that none can be passed for another (document 01, "What a queue holds").
 // From the Rust: fundamental/ptr.rs (Ptr, its index and its generation) and fundamental/errors.rs.
 ghost use mathlib.Core.Path.{_≡_};
-ghost use Rattle.handle.specs.Numbers.{noSlot, firstGeneration};
+ghost use Rattle.handle.specs.Numbers.{noSlot, firstGeneration, refusalNumber};
 
 // A place for one entry in the store: 0 and up, below the capacity.
 pub struct Slot(pub u64);
@@ -63,5 +63,21 @@ impl Handle {
         ensures { λ r. ⌜ (r .slot .0 ≡ noSlot) × (r .generation .0 ≡ firstGeneration) ⌝ }
     {
         Handle::first(Slot(Handle::NO_SLOT))
+    }
+}
+
+impl Refusal {
+    // Document 01's number of a refusal.
+    pub fn number(self) -> u64
+        ensures { λ r. ⌜ r ≡ refusalNumber self ⌝ }
+    {
+        match self {
+            Refusal::NotWithinCapacity => 1,
+            Refusal::FailedOrdRequirement => 2,
+            Refusal::InvalidPtr => 3,
+            Refusal::BadLayout => 4,
+            Refusal::NotSound => 5,
+            Refusal::BadTime => 6,
+        }
     }
 }
