@@ -26,6 +26,13 @@ shows k e = record { ranks = k .ranks; order = k .same ∙ e }
 pub fork-rank : (a : Tree) (e : Entry) (r : ℕ) (b : Tree) → Ranks (fork a e r b) → 1 ≤ r
 fork-rank a e r b x = omega arith
 
+-- a right child that has no sibling is a leaf, under a rank of 2
+pub lone-leaf : (P : Tree → Tree → Type 0) (e : Entry) (r : ℕ) (b : Tree) (f : Entry) (q : ℕ) (c : Tree)
+    → Ranks (fork tip e r (fork b f q c)) → (r ≡ 2 → P tip tip) → P b c
+lone-leaf P e r tip f q tip x h = h (omega arith)
+lone-leaf P e r tip f q (fork b g s c) x h = let i = fork-rank b g s c (x .1 .1) in absurd (omega arith)
+lone-leaf P e r (fork b g s c) f q d x h = let i = fork-rank b g s c (x .1 .0) in absurd (omega arith)
+
 pub settle-shows : (p : Way) → WayRanks 1 p → Shows (settle p) (around [] p)
 unfolding settle inorder plug before after
 settle-shows [] w = record { ranks = tt; order = refl }
@@ -78,9 +85,9 @@ pub vacate-emptied : (a : Tree) (e : Entry) (r : ℕ) (b : Tree) (p : Way) → R
     → Emptied (vacate (fork a e r b) p) (around (inorder a ++ inorder b) p)
 unfolding vacate vacateEnd endmost before after inorder
 vacate-emptied tip e r tip p x w = let q : r ≡ 1 = omega arith in record { ranks = rw q at w; order = refl }
-vacate-emptied tip e r (fork tip f q tip) p x w = record { ranks = (tt, omega arith, w); order = simp append-assoc }
-vacate-emptied tip e r (fork tip f q (fork b g s c)) p x w = let h = fork-rank b g s c (x .1 .1) in absurd (omega arith)
-vacate-emptied tip e r (fork (fork b g s c) f q d) p x w = let h = fork-rank b g s c (x .1 .0) in absurd (omega arith)
+vacate-emptied tip e r (fork b f q c) p x w =
+    lone-leaf (λ b c. Emptied (vacate (fork tip e r (fork b f q c)) p) (around (inorder (fork b f q c)) p)) e r b f q c x
+    (λ h. record { ranks = (tt, omega arith, w); order = simp append-assoc })
 vacate-emptied (fork a f q c) e r b p x w =
     follow (vacateEnd-emptied (fork a f q c) tt (step left (endmost right (fork a f q c)) r b ∷ p) (x .0) (x .1, x .2, w))
     (rw (front-last a f q c) (simp append-assoc))
