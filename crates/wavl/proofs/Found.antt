@@ -68,6 +68,7 @@ search-right k t h = go (search k t) (find-whole k t []) (find-passed k t [] tt)
     none-there [] m f g e i q = let j : k < e .key = all-in _ m g e i in absurd (omega arith)
     none-there (x ∷ l) m f g e (inl i) q = let j : x .key ≡ k = ap (λ (y : Entry). y .key) (sym i) ∙ q in let s : x .key < k = f .0 in absurd (omega arith)
     none-there (x ∷ l) m f g e (inr i) q = none-there l m (f .1) g e i q
+
     go : (w : Place) → whole w ≡ t → Passed k w → Searched k t w
     go (place tip p) q f =
         let o : inorder t ≡ before p ++ after p = ap inorder (sym q) ∙ empty-place-order p in
@@ -83,6 +84,7 @@ search-finds k t h = (there (search k t) (search-right k t h), back (search k t)
     there : (w : Place) → Searched k t w → IsFork (here w) → (e : Entry) × In e (inorder t) × (e .key ≡ k)
     there (place tip p) s i = absurd i
     there (place (fork a e r b) p) s i = (e, s .present, s .key-is)
+
     back : (w : Place) → Searched k t w → ((e : Entry) × In e (inorder t) × (e .key ≡ k)) → IsFork (here w)
     back (place tip p) s i = absurd (s .absent (i .0) (i .1) (i .2))
     back (place (fork a e r b) p) s i = tt
