@@ -1,15 +1,15 @@
 -- Request 14: one insertion restructures at most once, one removal rotates at most once, and neither changes more ranks by
 -- climbing than the root's rank before it plus two.
 -- A reader may rely on: the counts are those of Placing and TakingCounts, in the steps of document 01's definitions.
-use mathlib.Core.Path.{_≡_, refl, sym, ap, _∙_, subst}
+use mathlib.Core.Path.{_≡_, refl, sym, ap, subst}
 use mathlib.Core.List.{[], _∷_}
-use Prim.Native.Nat.{ℕ, suc, _+_, _-_, _≤_, _<_}
+use Prim.Native.Nat.{ℕ, suc, _+_, _-_, _≤_}
 use native.Mathlib.Decide.{ℕ-discrete}
 use native.Mathlib.Omega.{arith}
 use Rattle.wavl.specs.Entry.{Entry}
 use Rattle.wavl.specs.Tree.{Side, left, right, Tree, tip, fork, node, rank}
 use Rattle.wavl.specs.Way.{step, Way, plug}
-use Rattle.wavl.specs.Ranks.{Fits, Ranks}
+use Rattle.wavl.specs.Ranks.{Ranks}
 use Rattle.wavl.specs.Placing.{placeRound, climbTurns, insertTurns, turnChanges, climbChanges, insertChanges}
 use Rattle.wavl.specs.Taking.{roundAt, endmost, vacateEnd, vacate}
 use Rattle.wavl.specs.TakingCounts.{climbRotations, removeRotations, climbLowerings, removeChanges}

@@ -1,23 +1,23 @@
 -- Search by key: it finds an entry exactly when one has the key, and where none has, its place splits the chain.
 -- A reader may rely on: search-right and search-finds for trees with rising keys; looked-bound for every ranked tree and key.
-use mathlib.Core.Logic.{_⊎_, inl, inr, _↔_}
-use mathlib.Core.Path.{_≡_, refl, sym, ap, _∙_, subst}
+use mathlib.Core.Logic.{inl, inr, _↔_}
+use mathlib.Core.Path.{_≡_, refl, sym, ap, _∙_}
 use mathlib.Core.List.{List, [], _∷_, _++_, append-assoc}
-use mathlib.Core.Option.{Option, some, none}
+use mathlib.Core.Option.{some}
 use Prim.Native.Nat.{ℕ, suc, _+_, _*_, _^_, _≤_, _<_}
 use native.Mathlib.Omega.{arith}
 use lib.ListN.{length}
 use lib.Pow.{pow-mono}
-use Rattle.wavl.specs.Lists.{All, In, first, last}
-use Rattle.wavl.specs.Entry.{Entry, Before, Rising}
+use Rattle.wavl.specs.Lists.{In, first}
+use Rattle.wavl.specs.Entry.{Entry, Rising}
 use Rattle.wavl.specs.Tree.{Side, left, right, other, Tree, tip, fork, rank, inorder, size}
 use Rattle.wavl.specs.Way.{step, Way, Place, place, plug, here, whole, before, after, neighbour}
 use Rattle.wavl.specs.Ranks.{Ranks}
 use Rattle.wavl.specs.Placing.{insertAt}
-use Rattle.wavl.specs.Search.{keyRound, find, search, looked}
+use Rattle.wavl.specs.Search.{KeyRound, equal, less, greater, keyRound, byKey, find, search, path, looked}
 use Rattle.wavl.proofs.Lists.{all-in, all-map, in-middle, last-of}
 use Rattle.wavl.proofs.Order.{IsFork, empty-place-order}
-use Rattle.wavl.proofs.Rising.{Between, Smaller, Greater, between, node-around, insert-rising}
+use Rattle.wavl.proofs.Rising.{Between, Smaller, Greater, between, node-around, insert-rising, less-before}
 use Rattle.wavl.proofs.Rounds.{key-cases}
 use Rattle.wavl.proofs.Size.{size-bound, rank-le-19, rank-le-31}
 
@@ -107,9 +107,27 @@ nearest-side k right e r s p h = h .0
 
 -- placing where the search missed keeps rule 4
 pub missed-rising : (e : Entry) (t : Tree) (p : Way) → Missed (e .key) t p → Rising (inorder t) → Rising (inorder (insertAt e p))
-missed-rising e t p m h = insert-rising e p (m .smaller) (m .greater) (rw (m .back) h)
+missed-rising e t p m h =
+    insert-rising e p (all-map _ _ (λ x q. less-before x e q) (before p) (m .smaller)) (all-map _ _ (λ x q. less-before e x q) (after p) (m .greater)) (rw (m .back) h)
 
--- the count: at most the root's rank
+-- the count is the length of the path in the tree
+find-path : (k : ℕ) (t : Tree) (p : Way) → looked (find k t p) ≡ length (path k t) + length p
+unfolding find looked path byKey
+find-path k tip p = omega arith
+find-path k (fork a e r b) p = go (keyRound k (e .key)) (find-path k a (step left e r b ∷ p)) (find-path k b (step right e r a ∷ p))
+  where
+    go : (x : KeyRound k (e .key)) → looked (find k a (step left e r b ∷ p)) ≡ length (path k a) + suc (length p)
+        → looked (find k b (step right e r a ∷ p)) ≡ length (path k b) + suc (length p)
+        → looked (byKey x (place (fork a e r b) p) (find k a (step left e r b ∷ p)) (find k b (step right e r a ∷ p)))
+        ≡ suc (length (byKey x [] (path k a) (path k b))) + length p
+    go (equal x) i j = omega arith
+    go (less x) i j = omega arith
+    go (greater x) i j = omega arith
+
+pub looked-path : (k : ℕ) (t : Tree) → looked (search k t) ≡ length (path k t)
+looked-path k t = let i = find-path k t [] in omega arith
+
+-- at most the root's rank
 find-looked : (k : ℕ) (t : Tree) (p : Way) → Ranks t → looked (find k t p) ≤ rank t + length p
 unfolding find looked
 find-looked k tip p x = omega arith

@@ -1,10 +1,11 @@
 -- Lists: members, pairs of members and ends, across a place where something is put in or taken out.
 -- A reader may rely on: these hold for any relation, so that neither the order of keys nor distinct slots is proved twice.
 use mathlib.Core.Logic.{_⊎_, inl, inr}
-use mathlib.Core.Path.{_≡_, refl, sym, ap, _∙_}
-use mathlib.Core.List.{List, [], _∷_, _++_, append-assoc, append-nil}
-use mathlib.Core.Option.{Option, some, none}
+use mathlib.Core.Path.{_≡_, refl, ap}
+use mathlib.Core.List.{List, [], _∷_, _++_}
+use mathlib.Core.Option.{some, none}
 use Prim.Native.Nat.{ℕ}
+use native.Mathlib.Omega.{arith}
 use Rattle.wavl.specs.Lists.{All, Pairwise, In, first, last}
 use Rattle.wavl.specs.Entry.{Entry, slots}
 
@@ -110,11 +111,25 @@ module _ {A : Type 0} (R : A → A → Type 0) (trans : (x y z : A) → R x y �
       ((h .0, all-map _ _ (λ z q. trans x y z (h .0) q) l (i .0)), i)
 
 -- the ends
+pub some-none : {A : Type 0} {x : A} → ¬ (none ≡ some x)
+some-none q = let z : _≡_ {A = ℕ} 0 1 = cc in absurd (omega arith)
+
 pub last-of : {A : Type 0} (a : List A) (x : A) → last (a ++ (x ∷ [])) ≡ some x
 unfolding last
 last-of [] x = refl
 last-of (y ∷ []) x = refl
 last-of (y ∷ (z ∷ a)) x = last-of (z ∷ a) x
+
+pub last-split : {A : Type 0} (l : List A) (x : A) → last l ≡ some x → (m : List A) × (l ≡ m ++ (x ∷ []))
+unfolding last
+last-split [] x h = absurd (some-none h)
+last-split (y ∷ []) x h = ([], cc)
+last-split (y ∷ (z ∷ l)) x h = let i = last-split (z ∷ l) x h in (y ∷ i .0, ap (λ m. y ∷ m) (i .1))
+
+pub first-split : {A : Type 0} (l : List A) (x : A) → first l ≡ some x → (m : List A) × (l ≡ x ∷ m)
+unfolding first
+first-split [] x h = absurd (some-none h)
+first-split (y ∷ l) x h = (l, cc)
 
 -- slots
 pub slots-append : (a b : List Entry) → slots (a ++ b) ≡ slots a ++ slots b

@@ -1,13 +1,13 @@
 -- Finding a node by its slot, and the empty place beside a node.
 -- A reader may rely on: with distinct slots, locate answers the very place of an entry; keys play no part in it.
-use mathlib.Core.Logic.{_⊎_, inl, inr}
-use mathlib.Core.Path.{_≡_, refl, sym, ap, _∙_}
+use mathlib.Core.Logic.{inl, inr}
+use mathlib.Core.Path.{_≡_, refl, sym, _∙_}
 use mathlib.Core.List.{List, [], _∷_, _++_, append-assoc, append-nil}
 use Prim.Native.Nat.{ℕ}
 use native.Mathlib.Decide.{ℕ-discrete}
 use Rattle.wavl.specs.Lists.{All, In, Differ, Once}
 use Rattle.wavl.specs.Entry.{Entry, slots}
-use Rattle.wavl.specs.Tree.{Side, left, right, other, Tree, tip, fork, pick, node, inorder}
+use Rattle.wavl.specs.Tree.{Side, left, right, Tree, tip, fork, inorder}
 use Rattle.wavl.specs.Way.{step, Way, Place, place, plug, here, before, after}
 use Rattle.wavl.specs.Search.{orElse, findSlot, locate, gap, besideOf}
 use Rattle.wavl.proofs.Lists.{all-left, all-right, all-both, all-in, in-left, in-right, below-one, above-one, slots-append}

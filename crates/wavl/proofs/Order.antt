@@ -1,12 +1,12 @@
 -- The chain: what stands around a place, and that placing changes it by the new entry alone.
 -- A reader may rely on: insertAt-order needs no rank rule; the entries before and after the place stay as they are.
-use mathlib.Core.Path.{_≡_, refl, sym, ap, _∙_}
-use mathlib.Core.List.{List, [], _∷_, _++_, append-assoc, append-nil}
+use mathlib.Core.Path.{_≡_, refl, sym, _∙_}
+use mathlib.Core.List.{[], _∷_, _++_, append-assoc, append-nil}
 use Prim.Native.Nat.{ℕ, suc, _+_, _<_}
 use native.Mathlib.Decide.{ℕ-discrete}
 use Rattle.wavl.specs.Lists.{choose}
 use Rattle.wavl.specs.Entry.{Entry}
-use Rattle.wavl.specs.Tree.{Side, left, right, other, Tree, tip, fork, pick, node, rank, entry, child, leaf, inorder}
+use Rattle.wavl.specs.Tree.{Side, left, right, other, Tree, tip, fork, node, rank, leaf, inorder}
 use Rattle.wavl.specs.Way.{step, Way, plug, before, after, around}
 use Rattle.wavl.specs.Placing.{PlaceRound, stops, raises, turns, placeRound, byPlace, oneSide, alternating, restructure, insertClimb, insertAt}
 

@@ -1,13 +1,13 @@
 -- Placing keeps rule 2.
 -- A reader may rely on: insertAt-ranks, for every way whose tree is ranked. WayRanks h p says that the way is ranked for a
 -- tree of rank h at its end.
-use mathlib.Core.Path.{_≡_, refl, sym, ap, _∙_, subst}
-use mathlib.Core.List.{List, [], _∷_}
-use Prim.Native.Nat.{ℕ, zero, suc, _+_, _≤_, _<_}
+use mathlib.Core.Path.{_≡_, refl, subst}
+use mathlib.Core.List.{[], _∷_}
+use Prim.Native.Nat.{ℕ, suc, _+_, _≤_}
 use native.Mathlib.Decide.{ℕ-discrete}
 use native.Mathlib.Omega.{arith}
 use Rattle.wavl.specs.Entry.{Entry}
-use Rattle.wavl.specs.Tree.{Side, left, right, other, Tree, tip, fork, pick, node, rank, entry, child, leaf}
+use Rattle.wavl.specs.Tree.{Side, left, right, other, Tree, tip, fork, node, rank, entry, child, leaf}
 use Rattle.wavl.specs.Way.{step, Way, plug}
 use Rattle.wavl.specs.Ranks.{Fits, Ranks}
 use Rattle.wavl.specs.Placing.{placeRound, oneSide, alternating, restructure, insertClimb, insertAt}

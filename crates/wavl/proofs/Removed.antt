@@ -1,14 +1,14 @@
 -- The climb after taking away keeps rule 2 and the chain.
 -- A reader may rely on: removeClimb-kept, for a node that has come to be one lower than its way wants it.
-use mathlib.Core.Path.{_≡_, refl, sym, ap, _∙_, subst}
-use mathlib.Core.List.{List, [], _∷_, _++_, append-assoc}
-use Prim.Native.Nat.{ℕ, zero, suc, _+_, _-_, _≤_, _<_}
+use mathlib.Core.Path.{_≡_, refl, _∙_, subst}
+use mathlib.Core.List.{[], _∷_, append-assoc}
+use Prim.Native.Nat.{ℕ, suc, _+_, _-_, _≤_}
 use native.Mathlib.Omega.{arith}
 use Rattle.wavl.specs.Entry.{Entry}
-use Rattle.wavl.specs.Tree.{Side, left, right, other, Tree, tip, fork, pick, node, rank, entry, child, inorder}
+use Rattle.wavl.specs.Tree.{Side, left, right, other, Tree, tip, fork, node, rank, entry, child, inorder}
 use Rattle.wavl.specs.Way.{step, Way, plug}
-use Rattle.wavl.specs.Ranks.{Fits, Ranks}
-use Rattle.wavl.specs.Taking.{TakeRound, ends, lowers, rotates, lowersBoth, rotatesTwice, takeRound, byTake, roundAt, rotate, lowerBoth, rotateTwice, removeClimb}
+use Rattle.wavl.specs.Ranks.{Ranks}
+use Rattle.wavl.specs.Taking.{TakeRound, ends, lowers, rotates, lowersBoth, rotatesTwice, byTake, roundAt, rotate, lowerBoth, rotateTwice, removeClimb}
 use Rattle.wavl.proofs.Order.{Same, node-same, plug-same}
 use Rattle.wavl.proofs.Placed.{make, Parts, parts, WayRanks, plug-ranks}
 

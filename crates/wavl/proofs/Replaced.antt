@@ -2,21 +2,20 @@
 -- taken out stay what they are, handles included.
 -- A reader may rely on: replacement-is is document 01's sentence word for word, for every node of a ranked tree.
 use mathlib.Core.Logic.{_⊎_, inl, inr, _↔_}
-use mathlib.Core.Path.{_≡_, refl, sym, ap, _∙_}
-use mathlib.Core.List.{List, [], _∷_, _++_, append-assoc}
-use mathlib.Core.Option.{Option, some, none}
-use Prim.Native.Nat.{ℕ, suc, _+_, _≤_}
+use mathlib.Core.Path.{_≡_, refl, sym, _∙_}
+use mathlib.Core.List.{[], _∷_, _++_, append-assoc}
+use mathlib.Core.Option.{some, none}
+use Prim.Native.Nat.{ℕ, _≤_}
 use native.Mathlib.Omega.{arith}
 use lib.ListN.{length}
-use Rattle.wavl.specs.Lists.{In, first, last}
+use Rattle.wavl.specs.Lists.{In, first}
 use Rattle.wavl.specs.Entry.{Entry}
-use Rattle.wavl.specs.Tree.{Side, left, right, Tree, tip, fork, rank, inorder}
-use Rattle.wavl.specs.Way.{step, Way, Place, place, plug, before, after, neighbour}
+use Rattle.wavl.specs.Tree.{Side, left, right, Tree, tip, fork, inorder}
+use Rattle.wavl.specs.Way.{Way, place, plug, before, after, neighbour}
 use Rattle.wavl.specs.Ranks.{Ranks}
 use Rattle.wavl.specs.Taking.{endmost, vacateEnd, vacate, movedEnd, moved, removeAt}
-use Rattle.wavl.proofs.Lists.{in-left, in-right, in-cases, last-of}
+use Rattle.wavl.proofs.Lists.{in-left, in-right, in-cases, last-of, some-none}
 use Rattle.wavl.proofs.Order.{IsFork}
-use Rattle.wavl.proofs.Placed.{unplug-ranks}
 use Rattle.wavl.proofs.Taken.{fork-rank, lone-leaf, front, front-last}
 use Rattle.wavl.proofs.Rising.{node-around, removed-around}
 
@@ -49,9 +48,6 @@ pub record Replacement (a : Tree) (e : Entry) (r : ℕ) (b : Tree) (p : Way) (f 
 fork-tip : {a b : Tree} {e : Entry} {r : ℕ} → ¬ (fork a e r b ≡ tip)
 fork-tip q = let z : _≡_ {A = ℕ} 0 1 = cc in absurd (omega arith)
 
-some-none : {e : Entry} {o : Option Entry} → o ≡ some e → ¬ (o ≡ none)
-some-none q s = let z : _≡_ {A = ℕ} 0 1 = cc in absurd (omega arith)
-
 -- the prev of a node with a left child is the last entry of that child's tree
 pub prev-is : (a : Tree) (f : Entry) (q : ℕ) (c : Tree) (e : Entry) (r : ℕ) (b : Tree) (p : Way)
     → neighbour left (place (fork (fork a f q c) e r b) p) ≡ some (endmost right (fork a f q c))
@@ -63,7 +59,7 @@ prev-is a f q c e r b p =
 pub replacement-is : (a : Tree) (e : Entry) (r : ℕ) (b : Tree) (p : Way) (f : Entry) → Ranks (fork a e r b)
     → first (moved (fork a e r b)) ≡ some f → Replacement a e r b p f
 unfolding moved first neighbour endmost inorder
-replacement-is tip e r tip p f x h = absurd (some-none h refl)
+replacement-is tip e r tip p f x h = absurd (some-none h)
 replacement-is tip e r (fork b g q c) p f x h =
     lone-leaf (λ b c. first (moved (fork tip e r (fork b g q c))) ≡ some f → Replacement tip e r (fork b g q c) p f) e r b g q c x
     (λ two i. record { by-prev = λ n. absurd (n (inl (two, refl))); by-next = λ n. i }) h
@@ -73,7 +69,7 @@ replacement-is (fork a g q c) e r b p f x h =
   where
     never : ¬ (ByNext (fork a g q c) e r b p)
     never (inl n) = fork-tip (n .1)
-    never (inr n) = some-none (prev-is a g q c e r b p) n
+    never (inr n) = some-none (sym n ∙ prev-is a g q c e r b p)
 
 -- no replacement exactly where the node has no child
 pub moved-none : (a : Tree) (e : Entry) (r : ℕ) (b : Tree) → (moved (fork a e r b) ≡ []) ↔ ((a ≡ tip) × (b ≡ tip))

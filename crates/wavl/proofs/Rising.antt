@@ -1,24 +1,27 @@
 -- Rule 4 and distinct slots, kept by placing, by taking away and by a new value.
--- A reader may rely on: only before-trans and Between's lemma look into the order of two keys; all else holds for any order.
-use mathlib.Core.Path.{_≡_, refl, sym, ap, _∙_, subst}
+-- A reader may rely on: only before-trans, less-before and between look into the order of two keys; all else holds for any order.
+use mathlib.Core.Path.{_≡_, refl, _∙_}
 use mathlib.Core.List.{List, [], _∷_, _++_, append-assoc}
-use mathlib.Core.Option.{Option, some, none}
+use mathlib.Core.Option.{some}
 use Prim.Native.Nat.{ℕ, _<_}
 use native.Mathlib.Omega.{arith}
-use Rattle.wavl.specs.Lists.{All, Pairwise, In, Differ, Once, first, last}
+use Rattle.wavl.specs.Lists.{All, Pairwise, Differ, Once, first, last}
 use Rattle.wavl.specs.Entry.{Entry, revalued, Before, Rising, slots}
-use Rattle.wavl.specs.Tree.{Side, left, right, Tree, tip, fork, rank, inorder}
-use Rattle.wavl.specs.Way.{step, Way, Place, place, plug, before, after, around, replaceAt}
+use Rattle.wavl.specs.Tree.{left, right, Tree, tip, fork, inorder}
+use Rattle.wavl.specs.Way.{step, Way, place, plug, before, after, replaceAt}
 use Rattle.wavl.specs.Ranks.{Ranks}
 use Rattle.wavl.specs.Placing.{insertAt}
 use Rattle.wavl.specs.Taking.{removeAt}
-use Rattle.wavl.proofs.Lists.{all-left, all-right, all-both, all-map, drop-one, drop-part, put-one, below-one, above-one, slots-append}
+use Rattle.wavl.proofs.Lists.{all-right, all-both, all-map, drop-one, drop-part, put-one, below-one, above-one, slots-append}
 use Rattle.wavl.proofs.Order.{plug-around, insertAt-order, empty-place-order}
 use Rattle.wavl.proofs.Placed.{plug-ranks, unplug-ranks}
 use Rattle.wavl.proofs.Taken.{removeAt-shows}
 
 pub before-trans : (e f g : Entry) → Before e f → Before f g → Before e g
 before-trans e f g x y = omega arith
+
+pub less-before : (e f : Entry) → e .key < f .key → Before e f
+less-before e f x = omega arith
 
 -- an entry that may follow the last one of a chain may follow all; one that may precede the first one, likewise
 pub after-last : (e : Entry) (l : List Entry) → Rising l → ((f : Entry) → last l ≡ some f → Before f e) → All (λ f. Before f e) l

@@ -8,10 +8,10 @@ use native.Mathlib.Omega.{arith}
 use Rattle.wavl.specs.Lists.{choose}
 use Rattle.wavl.specs.Entry.{Entry}
 use Rattle.wavl.specs.Tree.{Side, left, right, other, Tree, tip, fork, node, rank, child, leaf}
-use Rattle.wavl.specs.Way.{step, Way, Place, place, plug}
-use Rattle.wavl.specs.Placing.{placeRound, byPlace, restructure, insertClimb, insertAt}
-use Rattle.wavl.specs.Taking.{TakeRound, takeRound, byTake, roundAt, rotate, lowerBoth, rotateTwice, removeClimb, settle}
-use Rattle.wavl.specs.Search.{KeyRound, equal, less, greater, keyRound, byKey, find, orElse, findSlot}
+use Rattle.wavl.specs.Way.{step, Way, place, plug}
+use Rattle.wavl.specs.Placing.{placeRound, restructure, insertClimb, insertAt}
+use Rattle.wavl.specs.Taking.{roundAt, rotate, lowerBoth, rotateTwice, removeClimb, settle}
+use Rattle.wavl.specs.Search.{KeyRound, equal, less, greater, keyRound, byKey, find}
 use Rattle.wavl.proofs.Order.{choose-cases, place-cases}
 use Rattle.wavl.proofs.Removed.{take-cases}
 

@@ -1,16 +1,15 @@
 -- How many entries a ranked tree has at least: 2 · 2^rank ≤ (n + 1)², and what follows of ranks.
 -- A reader may rely on: size-bound for n ≥ 1; rank ≤ 19 with 1,024 entries and ≤ 31 with 65,535; size is the chain's length.
-use mathlib.Core.Path.{_≡_, refl, ap, _∙_}
-use mathlib.Core.List.{List, [], _∷_, _++_}
-use Prim.Native.Nat.{ℕ, zero, suc, _+_, _*_, _^_, _≤_, _<_}
+use mathlib.Core.Path.{_≡_, refl}
+use mathlib.Core.List.{_∷_}
+use Prim.Native.Nat.{ℕ, suc, _+_, _*_, _^_, _≤_, _<_}
 use native.Mathlib.Decide.{decLe}
 use native.Mathlib.Nat.{mul-le-mul}
 use native.Mathlib.Omega.{arith}
 use lib.ListN.{length, length-append}
 use lib.Pow.{pow-mono}
-use Rattle.wavl.specs.Entry.{Entry}
 use Rattle.wavl.specs.Tree.{Tree, tip, fork, rank, inorder, size}
-use Rattle.wavl.specs.Ranks.{Fits, Ranks}
+use Rattle.wavl.specs.Ranks.{Ranks}
 
 pub size-length : (t : Tree) → size t ≡ length (inorder t)
 unfolding size inorder

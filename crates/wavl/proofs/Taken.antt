@@ -1,17 +1,17 @@
 -- The whole removal, by one or two replacements: it keeps rule 2, and takes one entry out of the chain.
 -- A reader may rely on: removeAt-shows, for a node anywhere in a ranked tree; the entries that stay are the same values, so
 -- the handles of moved entries stay.
-use mathlib.Core.Path.{_≡_, refl, sym, ap, _∙_, subst}
+use mathlib.Core.Path.{_≡_, refl, _∙_}
 use mathlib.Core.List.{List, [], _∷_, _++_, append-assoc}
-use Prim.Native.Nat.{ℕ, zero, suc, _+_, _≤_, _<_}
+use Prim.Native.Nat.{ℕ, _≤_}
 use native.Mathlib.Omega.{arith}
 use Rattle.wavl.specs.Entry.{Entry}
-use Rattle.wavl.specs.Tree.{Side, left, right, other, Tree, tip, fork, node, rank, leaf, inorder}
+use Rattle.wavl.specs.Tree.{Side, left, right, Tree, tip, fork, node, rank, leaf, inorder}
 use Rattle.wavl.specs.Way.{step, Way, plug, before, after, around}
 use Rattle.wavl.specs.Ranks.{Fits, Ranks}
-use Rattle.wavl.specs.Taking.{removeClimb, settle, endmost, vacateEnd, vacate, removeAt}
-use Rattle.wavl.proofs.Order.{Same, node-same, plug-same, plug-around, IsFork}
-use Rattle.wavl.proofs.Placed.{make, WayRanks, unplug-ranks}
+use Rattle.wavl.specs.Taking.{settle, endmost, vacateEnd, vacate, removeAt}
+use Rattle.wavl.proofs.Order.{Same, plug-same, plug-around, IsFork}
+use Rattle.wavl.proofs.Placed.{WayRanks, unplug-ranks}
 use Rattle.wavl.proofs.Removed.{Kept, removeClimb-kept}
 
 -- t is ranked, and its chain is l

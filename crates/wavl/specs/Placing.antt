@@ -1,7 +1,7 @@
 -- Placing a strike: the ranks after a new entry, as document 01 has them ("Ranks after a new entry n0 (rank 1) under n1").
 -- A reader may rely on: insertAt e p is the whole tree after e is placed at the empty end of the way p. Rounds are decided
 -- by ranks alone and keep the facts that decided them; the counts of request 14 are read off the same rounds.
-use mathlib.Core.List.{List, [], _∷_}
+use mathlib.Core.List.{[], _∷_}
 use mathlib.Core.Path.{_≡_}
 use Prim.Native.Nat.{ℕ, suc, _+_, _<_}
 use native.Mathlib.Decide.{decLt, ℕ-discrete}

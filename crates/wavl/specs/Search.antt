@@ -1,7 +1,7 @@
 -- Finding a place: by key ("search from the root, left if less, right if greater, to an equal key or a missing child"), by
 -- slot, and the empty place beside a node (Manual).
 -- A reader may rely on: search and locate change no tree; where nothing is found, what hangs at the place is a tip.
-use mathlib.Core.List.{[], _∷_}
+use mathlib.Core.List.{List, [], _∷_}
 use mathlib.Core.Path.{_≡_}
 use Prim.Native.Nat.{ℕ, suc, _<_}
 use native.Mathlib.Decide.{decLt, ℕ-discrete}
@@ -41,6 +41,11 @@ find k (fork a e r b) p =
 
 abbrev pub search : ℕ → Tree → Place
 search k t = find k t []
+
+-- the nodes that the search looks at, from the root down
+unfoldable pub path : ℕ → Tree → List Entry
+path k tip = []
+path k (fork a e r b) = e ∷ byKey (keyRound k (e .key)) [] (path k a) (path k b)
 
 -- "the count of nodes looked at .., which is the length of that path in the stored tree; 0 when empty"
 unfoldable pub looked : Place → ℕ

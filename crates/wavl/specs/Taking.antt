@@ -3,7 +3,7 @@
 -- out; vacate and moved say which entries move for that, and where.
 use mathlib.Core.List.{List, [], _∷_}
 use mathlib.Core.Path.{_≡_}
-use Prim.Native.Nat.{ℕ, suc, _+_, _-_, _≤_}
+use Prim.Native.Nat.{ℕ, _+_, _-_, _≤_}
 use native.Mathlib.Decide.{decLe, ℕ-discrete}
 use Rattle.wavl.specs.Entry.{Entry, blank}
 use Rattle.wavl.specs.Tree.{Side, left, right, other, Tree, tip, fork, node, rank, entry, child, leaf}

@@ -6,14 +6,14 @@ use native.Mathlib.Decide.{decLe, decLt, ℕ-discrete}
 use Rattle.wavl.specs.Lists.{choose}
 use Rattle.wavl.specs.Entry.{Entry}
 use Rattle.wavl.specs.Tree.{Tree, tip, fork, leaf}
-use Rattle.wavl.specs.Way.{Place, place, plug, here, above}
+use Rattle.wavl.specs.Way.{plug, here, above}
 use Rattle.wavl.specs.Placing.{placeRound, byPlace, insertClimb, insertAt}
 use Rattle.wavl.specs.Taking.{takeRound, byTake, removeClimb, settle, endmost, vacateEnd, vacate, removeAt}
 use Rattle.wavl.specs.Search.{keyRound, byKey, find, search}
 
--- an entry with the key k, all else alike
+-- an entry with the key k, and a slot and a value of its own
 abbrev at : ℕ → Entry
-at k = record { slot = 0; generation = 1; key = k; value = 0 }
+at k = record { slot = k; generation = 1; key = k; value = k }
 
 abbrev put : ℕ → Tree → Tree
 put k t = insertAt (at k) (above (search k t))
