@@ -11,23 +11,13 @@ use Rattle.wavl.specs.Lists.{In, Once, first}
 use Rattle.wavl.specs.Entry.{Entry, slots}
 use Rattle.wavl.specs.Tree.{Side, left, right, other, Tree, tip, fork, inorder, size}
 use Rattle.wavl.specs.Way.{Way, place, plug, before, after, neighbour}
-use Rattle.wavl.specs.Ranks.{Ranks, Ranked}
+use Rattle.wavl.specs.Ranks.{Ranks}
 use Rattle.wavl.specs.Placing.{insertAt}
 use Rattle.wavl.specs.Taking.{removeAt}
 use Rattle.wavl.proofs.Lists.{all-in, in-left, in-right, in-cases, in-middle, in-slots, first-split, last-split, last-of}
 use Rattle.wavl.proofs.Order.{insertAt-order, empty-place-order}
-use Rattle.wavl.proofs.Placed.{insertAt-ranks}
 use Rattle.wavl.proofs.Rising.{node-around, removed-around}
-use Rattle.wavl.proofs.Rule.{ranks→ranked, ranked→ranks}
 use Rattle.wavl.proofs.Size.{size-length}
-use Rattle.wavl.proofs.Taken.{removeAt-shows}
-
--- Rule 2, as document 01 words it, is kept.
-pub insert-ranked : (e : Entry) (p : Way) → Ranked (plug tip p) → Ranked (insertAt e p)
-insert-ranked e p x = ranks→ranked (insertAt e p) (insertAt-ranks e p (ranked→ranks (plug tip p) x))
-
-pub remove-ranked : (a : Tree) (e : Entry) (r : ℕ) (b : Tree) (p : Way) → Ranked (plug (fork a e r b) p) → Ranked (removeAt (fork a e r b) p)
-remove-ranked a e r b p x = ranks→ranked (removeAt (fork a e r b) p) (removeAt-shows a e r b p (ranked→ranks (plug (fork a e r b) p) x) .ranks)
 
 -- an entry stands in one place of a chain with distinct slots
 pub split-unique : (l : List Entry) (f : Entry) (m k n : List Entry) → Once (slots (l ++ (f ∷ m))) → l ++ (f ∷ m) ≡ k ++ (f ∷ n) → (l ≡ k) × (m ≡ n)

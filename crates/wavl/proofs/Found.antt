@@ -2,20 +2,19 @@
 -- A reader may rely on: search-right and search-finds for trees with rising keys; looked-bound for every ranked tree and key.
 use mathlib.Core.Logic.{inl, inr, _↔_}
 use mathlib.Core.Path.{_≡_, refl, sym, ap, _∙_}
-use mathlib.Core.List.{List, [], _∷_, _++_, append-assoc}
-use mathlib.Core.Option.{some}
+use mathlib.Core.List.{List, [], _∷_, _++_}
 use Prim.Native.Nat.{ℕ, suc, _+_, _*_, _^_, _≤_, _<_}
 use native.Mathlib.Omega.{arith}
 use lib.ListN.{length}
 use lib.Pow.{pow-mono}
-use Rattle.wavl.specs.Lists.{In, first}
+use Rattle.wavl.specs.Lists.{In}
 use Rattle.wavl.specs.Entry.{Entry, Rising}
-use Rattle.wavl.specs.Tree.{Side, left, right, other, Tree, tip, fork, rank, inorder, size}
-use Rattle.wavl.specs.Way.{step, Way, Place, place, plug, here, whole, before, after, neighbour}
+use Rattle.wavl.specs.Tree.{left, right, Tree, tip, fork, rank, inorder, size}
+use Rattle.wavl.specs.Way.{step, Way, Place, place, plug, here, whole, before, after}
 use Rattle.wavl.specs.Ranks.{Ranks}
 use Rattle.wavl.specs.Placing.{insertAt}
 use Rattle.wavl.specs.Search.{KeyRound, equal, less, greater, keyRound, byKey, find, search, path, looked}
-use Rattle.wavl.proofs.Lists.{all-in, all-map, in-middle, last-of}
+use Rattle.wavl.proofs.Lists.{all-in, all-map, in-middle}
 use Rattle.wavl.proofs.Order.{IsFork, empty-place-order}
 use Rattle.wavl.proofs.Rising.{Between, Smaller, Greater, between, node-around, insert-rising, less-before}
 use Rattle.wavl.proofs.Rounds.{key-cases}
@@ -88,22 +87,6 @@ search-finds k t h = (there (search k t) (search-right k t h), back (search k t)
     back : (w : Place) → Searched k t w → ((e : Entry) × In e (inorder t) × (e .key ≡ k)) → IsFork (here w)
     back (place tip p) s i = absurd (s .absent (i .0) (i .1) (i .2))
     back (place (fork a e r b) p) s i = tt
-
--- the last node looked at is the new entry's chain neighbour on the other side of the empty place, and the side is right
-pub nearest-neighbour : (d : Side) (e : Entry) (r : ℕ) (s : Tree) (p : Way) → neighbour (other d) (place tip (step d e r s ∷ p)) ≡ some e
-unfolding neighbour first before after
-nearest-neighbour left e r s p = refl
-nearest-neighbour right e r s p =
-    let q : before p ++ (inorder s ++ (e ∷ [])) ≡ (before p ++ inorder s) ++ (e ∷ []) = simp append-assoc in
-    rw q (last-of (before p ++ inorder s) e)
-
-abbrev pub OnSide : Side → ℕ → Entry → Type 0
-OnSide left k e = k < e .key
-OnSide right k e = e .key < k
-
-pub nearest-side : (k : ℕ) (d : Side) (e : Entry) (r : ℕ) (s : Tree) (p : Way) → Between k (step d e r s ∷ p) → OnSide d k e
-nearest-side k left e r s p h = h .0
-nearest-side k right e r s p h = h .0
 
 -- placing where the search missed keeps rule 4
 pub missed-rising : (e : Entry) (t : Tree) (p : Way) → Missed (e .key) t p → Rising (inorder t) → Rising (inorder (insertAt e p))

@@ -48,7 +48,7 @@ after (step right e r s ∷ p) = after p
 abbrev pub around : List Entry → Way → List Entry
 around l p = before p ++ (l ++ after p)
 
--- the chain neighbour of a node on the given side: prev on the left, next on the right
+-- the chain neighbour of a node, or of an empty place, on the given side: prev on the left, next on the right
 unfoldable pub neighbour : Side → Place → Option Entry
 neighbour left (place tip p) = last (before p)
 neighbour left (place (fork a e r b) p) = last (before p ++ inorder a)
