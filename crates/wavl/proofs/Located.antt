@@ -1,15 +1,15 @@
--- Finding a node by its slot, and the empty place beside a node.
+-- Finding a node by its slot.
 -- A reader may rely on: with distinct slots, locate answers the very place of an entry; keys play no part in it.
 use mathlib.Core.Logic.{inl, inr}
 use mathlib.Core.Path.{_≡_, refl, sym, _∙_}
-use mathlib.Core.List.{List, [], _∷_, _++_, append-assoc, append-nil}
+use mathlib.Core.List.{List, [], _∷_, _++_}
 use Prim.Native.Nat.{ℕ}
 use native.Mathlib.Decide.{ℕ-discrete}
 use Rattle.wavl.specs.Lists.{All, In, Differ, Once}
 use Rattle.wavl.specs.Entry.{Entry, slots}
-use Rattle.wavl.specs.Tree.{Side, left, right, Tree, tip, fork, inorder}
+use Rattle.wavl.specs.Tree.{left, right, Tree, tip, fork, inorder}
 use Rattle.wavl.specs.Way.{step, Way, Place, place, plug, here, before, after}
-use Rattle.wavl.specs.Search.{orElse, findSlot, locate, gap, besideOf}
+use Rattle.wavl.specs.Search.{orElse, findSlot, locate}
 use Rattle.wavl.proofs.Lists.{all-left, all-right, all-both, all-in, in-left, in-right, below-one, above-one, slots-append}
 use Rattle.wavl.proofs.Order.{IsFork, choose-cases}
 use Rattle.wavl.proofs.Rising.{node-around}
@@ -113,37 +113,3 @@ locate-plug a e r b p h =
     let w = once-away (before p ++ inorder a) e (inorder b ++ after p) (rw (node-around a e r b p) at h) in
     let q : findSlot (e .slot) (fork a e r b) p ≡ place (fork a e r b) p = choose-yes (ℕ-discrete (e .slot) (e .slot)) _ _ refl in
     pass (e .slot) p (fork a e r b) (all-left _ (before p) (inorder a) (w .0)) (all-right _ (inorder b) (after p) (w .1)) (rw q tt) ∙ q
-
--- The empty place beside a node: the end of the subtree on that side.
-pub gap-around : (d : Side) (t : Tree) (p : Way) → plug tip (gap d t p) ≡ plug t p
-unfolding gap plug
-gap-around d tip p = refl
-gap-around left (fork a e r b) p = gap-around left a (step left e r b ∷ p)
-gap-around right (fork a e r b) p = gap-around right b (step right e r a ∷ p)
-
--- the place is empty, and lies in the same tree
-pub beside-whole : (d : Side) (a : Tree) (e : Entry) (r : ℕ) (b : Tree) (p : Way) → plug tip (besideOf d (place (fork a e r b) p)) ≡ plug (fork a e r b) p
-unfolding besideOf plug
-beside-whole left a e r b p = gap-around right a (step left e r b ∷ p)
-beside-whole right a e r b p = gap-around left b (step right e r a ∷ p)
-
-gap-right : (t : Tree) (p : Way) → (before (gap right t p) ≡ before p ++ inorder t) × (after (gap right t p) ≡ after p)
-unfolding gap before after inorder
-gap-right tip p = (simp append-nil, refl)
-gap-right (fork a e r b) p = let i = gap-right b (step right e r a ∷ p) in (i .0 ∙ simp append-assoc, i .1)
-
-gap-left : (t : Tree) (p : Way) → (before (gap left t p) ≡ before p) × (after (gap left t p) ≡ inorder t ++ after p)
-unfolding gap before after inorder
-gap-left tip p = (refl, refl)
-gap-left (fork a e r b) p = let i = gap-left a (step left e r b ∷ p) in (i .0, i .1 ∙ simp append-assoc)
-
--- on the left it lies just before the node's entry, on the right just after it
-pub beside-left : (a : Tree) (e : Entry) (r : ℕ) (b : Tree) (p : Way)
-    → (before (besideOf left (place (fork a e r b) p)) ≡ before p ++ inorder a) × (after (besideOf left (place (fork a e r b) p)) ≡ e ∷ (inorder b ++ after p))
-unfolding besideOf before after
-beside-left a e r b p = gap-right a (step left e r b ∷ p)
-
-pub beside-right : (a : Tree) (e : Entry) (r : ℕ) (b : Tree) (p : Way)
-    → (before (besideOf right (place (fork a e r b) p)) ≡ (before p ++ inorder a) ++ (e ∷ [])) × (after (besideOf right (place (fork a e r b) p)) ≡ inorder b ++ after p)
-unfolding besideOf before after
-beside-right a e r b p = let i = gap-left b (step right e r a ∷ p) in (i .0 ∙ simp append-assoc, i .1)

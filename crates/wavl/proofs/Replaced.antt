@@ -2,7 +2,7 @@
 -- taken out stay what they are, handles included.
 -- A reader may rely on: replacement-is is document 01's sentence word for word, for every node of a ranked tree.
 use mathlib.Core.Logic.{_⊎_, inl, inr, _↔_}
-use mathlib.Core.Path.{_≡_, refl, sym, _∙_}
+use mathlib.Core.Path.{_≡_, refl, sym, ap, _∙_}
 use mathlib.Core.List.{[], _∷_, _++_, append-assoc}
 use mathlib.Core.Option.{some, none}
 use Prim.Native.Nat.{ℕ, _≤_}
@@ -11,7 +11,7 @@ use lib.ListN.{length}
 use Rattle.wavl.specs.Lists.{In, first}
 use Rattle.wavl.specs.Entry.{Entry}
 use Rattle.wavl.specs.Tree.{Side, left, right, Tree, tip, fork, inorder}
-use Rattle.wavl.specs.Way.{Way, place, plug, before, after, neighbour}
+use Rattle.wavl.specs.Way.{Step, step, Way, place, plug, before, after, neighbour}
 use Rattle.wavl.specs.Ranks.{Ranks}
 use Rattle.wavl.specs.Taking.{endmost, vacateEnd, vacate, movedEnd, moved, removeAt}
 use Rattle.wavl.proofs.Lists.{in-left, in-right, in-cases, last-of, some-none}
@@ -83,6 +83,38 @@ pub once-more : (a : Tree) (e : Entry) (r : ℕ) (p : Way) → vacateEnd right (
 unfolding vacateEnd vacate
 once-more tip e r p = refl
 once-more (fork a f q c) e r p = refl
+
+-- "the replacement takes its rank and place": the way from the emptied place passes there, with the replacement's entry
+longer : {v : Way} {x : Step} {q : Way} → (w : Way) × (v ≡ w ++ (x ∷ q)) → (w : Way) × (v ≡ w ++ q)
+longer {x = x} i = (i .0 ++ (x ∷ []), i .1 ∙ simp append-assoc)
+
+vacateEnd-way : (d : Side) (t : Tree) (q : Way) → (w : Way) × (vacateEnd d t q ≡ w ++ q)
+unfolding vacateEnd
+vacateEnd-way d tip q = ([], refl)
+vacateEnd-way left (fork tip e r tip) q = ([], refl)
+vacateEnd-way left (fork tip e r (fork b f s c)) q = longer (vacateEnd-way left (fork b f s c) (step right (endmost left (fork b f s c)) r tip ∷ q))
+vacateEnd-way left (fork (fork a f s c) e r b) q = longer (vacateEnd-way left (fork a f s c) (step left e r b ∷ q))
+vacateEnd-way right (fork tip e r tip) q = ([], refl)
+vacateEnd-way right (fork (fork a f s c) e r tip) q = longer (vacateEnd-way right (fork a f s c) (step left (endmost right (fork a f s c)) r tip ∷ q))
+vacateEnd-way right (fork a e r (fork b f s c)) q = longer (vacateEnd-way right (fork b f s c) (step right e r a ∷ q))
+
+pub record Replaces (a : Tree) (e : Entry) (r : ℕ) (b : Tree) (p : Way) (f : Entry) : Type 0 where
+  pub further : Way
+  pub side : Side
+  pub sibling : Tree
+  pub way-is : vacate (fork a e r b) p ≡ further ++ (step side f r sibling ∷ p)
+
+pub replaces : (a : Tree) (e : Entry) (r : ℕ) (b : Tree) (p : Way) (f : Entry) → first (moved (fork a e r b)) ≡ some f → Replaces a e r b p f
+unfolding moved first vacate
+replaces tip e r tip p f h = absurd (some-none h)
+replaces tip e r (fork b g q c) p f h =
+    let w = vacateEnd-way left (fork b g q c) (step right (endmost left (fork b g q c)) r tip ∷ p) in
+    let i : endmost left (fork b g q c) ≡ f = cc in
+    record { further = w .0; side = right; sibling = tip; way-is = w .1 ∙ ap (λ (x : Entry). w .0 ++ (step right x r tip ∷ p)) i }
+replaces (fork a g q c) e r b p f h =
+    let w = vacateEnd-way right (fork a g q c) (step left (endmost right (fork a g q c)) r b ∷ p) in
+    let i : endmost right (fork a g q c) ≡ f = cc in
+    record { further = w .0; side = left; sibling = b; way-is = w .1 ∙ ap (λ (x : Entry). w .0 ++ (step left x r b ∷ p)) i }
 
 -- All entries but the one taken out stand in the tree afterwards, as they were: same slot, generation, key and value.
 module _ (a : Tree) (e : Entry) (r : ℕ) (b : Tree) (p : Way) (x : Ranks (plug (fork a e r b) p)) where

@@ -121,6 +121,10 @@ key-cases P (equal x) a b c f g h = f x
 key-cases P (less x) a b c f g h = g x
 key-cases P (greater x) a b c f g h = h x
 
+pub find-missing : (k : ℕ) (p : Way) → find k tip p ≡ place tip p
+unfolding find
+find-missing k p = refl
+
 module _ (k : ℕ) (a : Tree) (e : Entry) (r : ℕ) (b : Tree) (p : Way) where
   pub find-equal : k ≡ e .key → find k (fork a e r b) p ≡ place (fork a e r b) p
   unfolding find
