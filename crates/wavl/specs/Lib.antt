@@ -1,0 +1,9 @@
+pub mod Lists
+pub mod Entry
+pub mod Tree
+pub mod Way
+pub mod Ranks
+pub mod Placing
+pub mod Taking
+pub mod TakingCounts
+pub mod Search
