@@ -1,0 +1,28 @@
+use borrow.Author.Needs.{needs}
+use Rattle.chain.specs.Links.{joined, neighbours, unlinkSlot}
+use Rattle.chain.proofs.unlink.Statement.{statement}
+use Rattle.chain.proofs.unlink.Tie as tie
+
+field-requires : tie.Need-field-requires
+field-requires c κs = search needs
+
+field-requires-2 : tie.Need-field-requires-2
+field-requires-2 c κs = search needs
+
+hook-requires : tie.Need-hook-requires
+hook-requires c κs = search needs
+
+hook-requires-2 : tie.Need-hook-requires-2
+hook-requires-2 c κs = search needs
+
+same-length : tie.Need-same-length
+same-length c = search needs
+
+returns : tie.Need-returns
+unfolding unlinkSlot joined neighbours
+returns c = cc
+
+pub unlink-spec : {M : Type 1} → statement M
+unlink-spec =
+    tie.close
+    (tie.spec field-requires field-requires-2 hook-requires hook-requires-2 same-length returns)
