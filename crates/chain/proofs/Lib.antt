@@ -1,1 +1,5 @@
 pub mod Answers
+pub mod Keeps
+pub mod Hooks
+pub mod Laws
+pub mod StepLaws

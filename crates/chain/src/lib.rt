@@ -106,7 +106,8 @@ pub fn step(s: &[u64], cap: u64, i: u64, d: u64) -> Stepped
     ensures { λ r. ⌜ r ≡ stepFrom (now (s .entry)) cap i d ⌝ }
     ensures { λ r. ⌜ SteppedIn cap r ⌝ }
 {
-    follow(s, cap, words::field(s, cap, i, PREV + d))
+    let q = words::field(s, cap, i, PREV + d);
+    follow(s, cap, q)
 }
 
 // The end of the chain on side d: the first entry for d = 0, the last for d = 1.
@@ -116,5 +117,6 @@ pub fn end(s: &[u64], cap: u64, d: u64) -> Stepped
     ensures { λ r. ⌜ r ≡ endOf (now (s .entry)) cap d ⌝ }
     ensures { λ r. ⌜ SteppedIn cap r ⌝ }
 {
-    follow(s, cap, words::head(s, FIRST + d))
+    let p = words::head(s, FIRST + d);
+    follow(s, cap, p)
 }

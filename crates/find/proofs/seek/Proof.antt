@@ -3,7 +3,7 @@ use Prim.Native.Nat.{_-_, _≤_}
 use native.Mathlib.Omega.{arith}
 use borrow.Author.Needs.{needs}
 use Rattle.find.specs.Seeking.{budget, seekFrom, seekModel}
-use Rattle.find.proofs.Turns.{seek-empty, seek-start, spent, outside, equal, beside, down}
+use Rattle.find.proofs.Turns.{none, start, spent, outside, equal, beside, down}
 use Rattle.find.proofs.seek.Statement.{statement}
 use Rattle.find.proofs.seek.Tie as tie
 
@@ -17,10 +17,10 @@ head-requires : tie.Need-head-requires Inv-loop μ-loop
 head-requires c κs = search needs
 
 returns : tie.Need-returns Inv-loop μ-loop
-returns c = search seek-empty
+returns c = search none
 
 loop-holds : tie.Need-loop-holds Inv-loop μ-loop
-loop-holds c = (omega arith, search seek-start)
+loop-holds c = (omega arith, search start)
 
 add-n : tie.Need-add-n Inv-loop μ-loop
 add-n c = omega arith
