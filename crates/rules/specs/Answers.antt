@@ -1,0 +1,62 @@
+-- What a call answers (document 01, "When the queue says no", and the answers named in the sections after it).
+-- A reader may rely on this: each answer carries the values that document 01 names, and a refusal its number alone.
+use Prim.Native.Nat.{ℕ}
+use Rattle.wavl.specs.Tree.{Side}
+use Rattle.rules.specs.Queue.{Handle}
+
+-- document 01's table of refusals
+abbrev pub notWithinCapacity : ℕ
+notWithinCapacity = 1
+
+abbrev pub failedOrdRequirement : ℕ
+failedOrdRequirement = 2
+
+abbrev pub invalidPtr : ℕ
+invalidPtr = 3
+
+abbrev pub badLayout : ℕ
+badLayout = 4
+
+abbrev pub notSound : ℕ
+notSound = 5
+
+abbrev pub badTime : ℕ
+badTime = 6
+
+-- "Any insertion answers New or Replacing with the handle, and the old value if replacing."
+pub data Inserted : Type 0 where
+  new : Handle → Inserted
+  replacing : Handle → ℕ → Inserted
+  notInserted : ℕ → Inserted
+
+-- "The look-ahead (OrdEntryKind) tells New or Replacing with the handle, or the refusal"
+pub data Ahead : Type 0 where
+  wouldAdd : Handle → Ahead
+  wouldReplace : Handle → Ahead
+  wouldRefuse : ℕ → Ahead
+
+-- "At the top generation the entry is still removed and returned, with the note GenerationOverflow"
+pub data Note : Type 0 where
+  noNote : Note
+  generationOverflow : Note
+
+-- "Reading and removal answer key and value."
+pub data Removed : Type 0 where
+  removed : ℕ → ℕ → Note → Removed
+  notRemoved : ℕ → Removed
+
+pub data Read : Type 0 where
+  reads : ℕ → ℕ → Read
+  notRead : ℕ → Read
+
+-- "Search as a call answers the equal entry's handle, or the last node's handle and the side, or Empty, each with the count."
+pub data Found : Type 0 where
+  equalAt : Handle → ℕ → Found
+  beside : Handle → Side → ℕ → Found
+  noEntry : ℕ → Found
+
+-- "at an end the answer is End"
+pub data Stepped : Type 0 where
+  stands : Handle → Stepped
+  ends : Stepped
+  notStepped : ℕ → Stepped

@@ -1,0 +1,9 @@
+pub mod Queue
+pub mod Answers
+pub mod Place
+pub mod Insert
+pub mod Remove
+pub mod Look
+pub mod Sound
+pub mod Calls
+pub mod Bench
