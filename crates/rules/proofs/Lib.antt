@@ -1,1 +1,3 @@
 pub mod Bench
+pub mod Lists
+pub mod Kept

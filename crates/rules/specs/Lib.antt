@@ -5,5 +5,6 @@ pub mod Insert
 pub mod Remove
 pub mod Look
 pub mod Sound
+pub mod Changes
 pub mod Calls
 pub mod Bench
