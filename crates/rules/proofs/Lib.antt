@@ -1,3 +1,4 @@
 pub mod Bench
 pub mod Lists
 pub mod Kept
+pub mod Places
