@@ -2,3 +2,5 @@ pub mod Bench
 pub mod Lists
 pub mod Kept
 pub mod Places
+pub mod Removing
+pub mod Inserting
