@@ -1,0 +1,72 @@
+-- Empty and Manual insertion: the answer says what was done to the queue, and the queue stays sound.
+-- A reader may rely on these for every key, value, handle and side, and every sound queue.
+use mathlib.Core.Path.{_≡_, refl, sym, ap, _∙_}
+use mathlib.Core.List.{List, [], _∷_, _++_}
+use Prim.Native.Nat.{ℕ}
+use native.Mathlib.Decide.{ℕ-discrete}
+use Rattle.wavl.specs.Entry.{Entry, Before, Rising}
+use Rattle.wavl.specs.Tree.{Side, left, right, Tree, tip, fork, inorder}
+use Rattle.wavl.specs.Way.{Way, Place, place, plug, before, after, neighbour}
+use Rattle.wavl.specs.Search.{besideOf}
+use Rattle.wavl.proofs.Order.{choose-cases}
+use Rattle.rules.specs.Queue.{Handle, Queue, entries}
+use Rattle.rules.specs.Answers.{Inserted, notInserted, failedOrdRequirement}
+use Rattle.rules.specs.Place.{Spot, nowhere, spot, spotOf}
+use Rattle.rules.specs.Insert.{Where, less, equal, greater, addAt, swapAt, keyed, decBetween, addBeside, placeEmpty, insertEmpty, placeManual, insertManual}
+use Rattle.rules.specs.Sound.{Sound}
+use Rattle.rules.specs.Changes.{AfterInserting}
+use Rattle.rules.proofs.Places.{SpotIs, spot-entries, beside-is, beside-plug}
+use Rattle.rules.proofs.Removing.{sound-spot}
+use Rattle.rules.proofs.Inserting.{Inserts, FitsAt, add-at, swap-at, Sides, between-sides}
+
+module _ (key value : ℕ) (q : Queue) (s : Sound q) where
+  refused : (n : ℕ) → Inserts key value q (notInserted n, q)
+  refused n = record { does = refl; sound = s }
+
+  -- Empty
+  place-empty : (t : Tree) → q .tree ≡ t → Inserts key value q (placeEmpty t key value q)
+  unfolding placeEmpty plug before after
+  place-empty tip e = add-at key value q s [] (sym e) (record { above = tt; below = tt })
+  place-empty (fork a x r b) e = refused failedOrdRequirement
+
+  pub empty-both : Inserts key value q (insertEmpty key value q)
+  unfolding insertEmpty
+  empty-both = place-empty (q .tree) refl
+
+  pub empty-does : AfterInserting key value q (insertEmpty key value q .0) (insertEmpty key value q .1)
+  empty-does = empty-both .does
+
+  pub empty-sound : Sound (insertEmpty key value q .1)
+  empty-sound = empty-both .sound
+
+  -- Manual
+  add-beside : (d : Side) (a : Tree) (x : Entry) (r : ℕ) (b : Tree) (p : Way) → plug (fork a x r b) p ≡ q .tree
+      → Inserts key value q (addBeside d x (place (fork a x r b) p) key value q)
+  add-beside d a x r b p w =
+      let old : entries q ≡ (before p ++ inorder a) ++ (x ∷ (inorder b ++ after p)) = ap inorder (sym w) ∙ spot-entries a x r b p in
+      let c = place (fork a x r b) p in
+      choose-cases (Inserts key value q) (decBetween d (keyed key) x (neighbour d c)) (addAt key value (besideOf d c) q) (notInserted failedOrdRequirement, q)
+      (λ f.
+      let two = between-sides d key a x r b p (rw old at (s .rising)) f in
+      let i = beside-is d a x r b p in
+      add-at key value q s (besideOf d c) (beside-plug d a x r b p ∙ w) (record { above = rw (i .0) (two .above); below = rw (i .1) (two .below) }))
+      (λ f. refused failedOrdRequirement)
+
+  place-manual : (h : Handle) (c : Spot) → SpotIs h q c → (w : Where) → Inserts key value q (placeManual c w key value q)
+  unfolding placeManual
+  place-manual h nowhere n w = refused failedOrdRequirement
+  place-manual h (spot a x r b p) n less = add-beside left a x r b p (n .1)
+  place-manual h (spot a x r b p) n equal =
+      choose-cases (Inserts key value q) (ℕ-discrete key (x .key)) (swapAt value a x r b p q) (notInserted failedOrdRequirement, q)
+      (λ e. swap-at key value q s a x r b p (n .1) (sym e)) (λ e. refused failedOrdRequirement)
+  place-manual h (spot a x r b p) n greater = add-beside right a x r b p (n .1)
+
+  pub manual-both : (h : Handle) (w : Where) → Inserts key value q (insertManual h w key value q)
+  unfolding insertManual
+  manual-both h w = place-manual h (spotOf h q) (sound-spot h s) w
+
+  pub manual-does : (h : Handle) (w : Where) → AfterInserting key value q (insertManual h w key value q .0) (insertManual h w key value q .1)
+  manual-does h w = manual-both h w .does
+
+  pub manual-sound : (h : Handle) (w : Where) → Sound (insertManual h w key value q .1)
+  manual-sound h w = manual-both h w .sound
