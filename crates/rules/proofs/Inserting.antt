@@ -6,22 +6,23 @@ use mathlib.Core.Option.{Option, none, some}
 use Prim.Native.Nat.{ℕ}
 use native.Mathlib.Omega.{arith}
 use Rattle.wavl.specs.Lists.{All, Pairwise, first, last}
-use Rattle.wavl.specs.Entry.{Entry, revalued, Before, Rising}
+use Rattle.wavl.specs.Entry.{Entry, Before, Rising}
 use Rattle.wavl.specs.Tree.{Side, left, right, Tree, tip, fork, inorder}
 use Rattle.wavl.specs.Way.{Way, place, plug, before, after, neighbour, replaceAt}
 use Rattle.wavl.specs.Ranks.{Ranks}
 use Rattle.wavl.specs.Placing.{insertAt}
-use Rattle.wavl.proofs.Lists.{all-both, all-map, drop-one, put-one, below-one, above-one, pairwise-left, pairwise-right}
+use Rattle.wavl.proofs.Lists.{all-both, all-map, put-one, below-one, above-one, pairwise-left, pairwise-right}
 use Rattle.wavl.proofs.Rule.{ranks→ranked, ranked→ranks}
 use Rattle.wavl.proofs.Order.{insertAt-order, empty-place-order}
-use Rattle.wavl.proofs.Placed.{plug-ranks, unplug-ranks, insertAt-ranks}
+use Rattle.wavl.proofs.Placed.{insertAt-ranks}
+use Rattle.wavl.proofs.Rising.{before-trans, node-around, replaceAt-order, replaceAt-ranks, replaceAt-rising}
 use Rattle.rules.specs.Queue.{Handle, handleOf, entryWith, Queue, entries, Names}
 use Rattle.rules.specs.Answers.{Inserted}
 use Rattle.rules.specs.Insert.{addWith, addAt, swapAt, keyed, Beside, Between}
 use Rattle.rules.specs.Sound.{Sound}
 use Rattle.rules.specs.Changes.{SameHeader, Adds, Swaps, AfterInserting}
 use Rattle.rules.proofs.Kept.{sound-adds, sound-swaps}
-use Rattle.rules.proofs.Places.{spot-entries, smallerAt, greaterAt}
+use Rattle.rules.proofs.Places.{smallerAt, greaterAt}
 
 -- an answer and a queue that insertion may leave
 pub record Inserts (key value : ℕ) (q : Queue) (r : Inserted × Queue) : Type 0 where
@@ -55,27 +56,20 @@ module _ (key value : ℕ) (q : Queue) (s : Sound q) where
 
   pub swap-at : (a : Tree) (x : Entry) (r : ℕ) (b : Tree) (p : Way) → plug (fork a x r b) p ≡ q .tree → x .key ≡ key
       → Inserts key value q (swapAt value a x r b p q)
-  unfolding replaceAt
   swap-at a x r b p w e =
       let l = before p ++ inorder a in
       let g = inorder b ++ after p in
-      let y = revalued value x in
-      let old : entries q ≡ l ++ (x ∷ g) = ap inorder (sym w) ∙ spot-entries a x r b p in
-      let now : inorder (plug (fork a y r b) p) ≡ l ++ (y ∷ g) = spot-entries a y r b p in
-      let rising : Rising (l ++ (x ∷ g)) = rw old at (s .rising) in
-      let parts = unplug-ranks p (fork a x r b) (rw w (ranked→ranks (q .tree) (s .ranked))) in
+      let t = replaceAt value (place (fork a x r b) p) in
+      let old : entries q ≡ l ++ (x ∷ g) = ap inorder (sym w) ∙ node-around a x r b p in
       let swaps : Swaps q (swapAt value a x r b p q .1) x value =
-      record { header = record { capacity = refl; top = refl }; same-free = refl; smaller = l; greater = g; old = old; now = now } in
+      record { header = record { capacity = refl; top = refl }; same-free = refl; smaller = l; greater = g; old = old; now = replaceAt-order value a x r b p } in
       record {
         does = (x, (refl, refl), refl, e, swaps);
-        sound = sound-swaps s swaps (ranks→ranked (plug (fork a y r b) p) (plug-ranks p (fork a y r b) (parts .0) (parts .1)))
-            (rw now (put-one Before l y g (below-one Before l x g rising) (above-one Before l x g rising) (drop-one Before l x g rising)));
+        sound = sound-swaps s swaps (ranks→ranked t (replaceAt-ranks value a x r b p (rw w (ranked→ranks (q .tree) (s .ranked)))))
+            (replaceAt-rising value a x r b p (rw w (s .rising)));
       }
 
 -- Manual: a key between the target's and its neighbour's lies between all that stands on the two sides
-before-trans : (x y z : Entry) → Before x y → Before y z → Before x z
-before-trans x y z f g = omega arith
-
 abbrev AtMost : Side → Option Entry → Entry → Type 0
 AtMost d none e = Unit {0}
 AtMost d (some y) e = Beside d y e

@@ -4,4 +4,4 @@ pub mod Kept
 pub mod Places
 pub mod Removing
 pub mod Inserting
-pub mod ByHand
+pub mod Insertions

@@ -11,7 +11,8 @@ use Rattle.wavl.specs.Tree.{Side, left, right, other, Tree, tip, fork, pick, in
 use Rattle.wavl.specs.Way.{step, Way, Place, place, plug, before, after}
 use Rattle.wavl.specs.Search.{orElse, findSlot, locate, gap, besideOf}
 use Rattle.wavl.proofs.Lists.{all-both, all-in, in-slots, slots-append}
-use Rattle.wavl.proofs.Order.{plug-around, choose-cases}
+use Rattle.wavl.proofs.Order.{choose-cases}
+use Rattle.wavl.proofs.Rising.{node-around}
 use Rattle.rules.specs.Queue.{Handle, handleOf, Queue, entries, Names, Live}
 use Rattle.rules.specs.Place.{Spot, nowhere, spot, ofGeneration, spotOf}
 use Rattle.rules.proofs.Lists.{in-drop, once-differ, slots-put}
@@ -39,12 +40,6 @@ find-slot i (fork a x r b) p =
     (λ e. (e, refl))
     (λ e. or-else i a x r b p (findSlot i a (step left x r b ∷ p)) (findSlot i b (step right x r a ∷ p)) e (find-slot i a (step left x r b ∷ p)) (find-slot i b (step right x r a ∷ p)))
 
--- the entries on the two sides of a node
-pub spot-entries : (a : Tree) (x : Entry) (r : ℕ) (b : Tree) (p : Way)
-    → inorder (plug (fork a x r b) p) ≡ (before p ++ inorder a) ++ (x ∷ (inorder b ++ after p))
-unfolding inorder
-spot-entries a x r b p = plug-around p (fork a x r b) ∙ simp append-assoc
-
 -- with distinct slots, two entries with one slot are one
 pub same-slot : (a : List Entry) (x : Entry) (b : List Entry) → Once (slots (a ++ (x ∷ b))) → (y : Entry) → In y (a ++ (x ∷ b)) → y .slot ≡ x .slot → y ≡ x
 same-slot a x b once y i e = go (in-drop y a x b i)
@@ -67,7 +62,7 @@ module _ (h : Handle) (q : Queue) (once : Once (slots (entries q))) where
   of-place (place (fork a x r b) w) f = go (ℕ-discrete (x .generation) (h .generation))
     where
       whole : entries q ≡ (before w ++ inorder a) ++ (x ∷ (inorder b ++ after w))
-      whole = ap inorder (sym (f .1)) ∙ spot-entries a x r b w
+      whole = ap inorder (sym (f .1)) ∙ node-around a x r b w
       go : (d : Dec (x .generation ≡ h .generation)) → SpotIs h q (choose d (spot a x r b w) nowhere)
       go (yes e) = ((f .0, e), f .1)
       go (no e) = λ l.

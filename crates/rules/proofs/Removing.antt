@@ -1,17 +1,18 @@
 -- What removal does: its answer, the queue after it, and that it stays sound.
 -- A reader may rely on remove-does and remove-sound, for every handle and every sound queue.
 use mathlib.Core.Path.{_≡_, refl, sym, ap, _∙_, subst}
-use mathlib.Core.List.{List, [], _∷_, _++_, append-assoc}
+use mathlib.Core.List.{List, [], _∷_, _++_}
 use Prim.Native.Nat.{ℕ}
 use Rattle.wavl.specs.Lists.{Once}
 use Rattle.wavl.specs.Entry.{Entry, Before, Rising, slots}
 use Rattle.wavl.specs.Tree.{Tree, tip, fork, inorder}
-use Rattle.wavl.specs.Way.{Way, plug, before, after, around}
+use Rattle.wavl.specs.Way.{Way, plug, before, after}
 use Rattle.wavl.specs.Ranks.{Ranked, Ranks}
 use Rattle.wavl.specs.Taking.{removeAt}
 use Rattle.wavl.proofs.Lists.{drop-one, pairwise-left}
 use Rattle.wavl.proofs.Rule.{ranks→ranked, ranked→ranks}
-use Rattle.wavl.proofs.Taken.{Shows, removeAt-shows}
+use Rattle.wavl.proofs.Taken.{removeAt-shows}
+use Rattle.wavl.proofs.Rising.{node-around, removed-around}
 use Rattle.rules.specs.Queue.{Handle, Queue, entries, Names}
 use Rattle.rules.specs.Answers.{Removed, removed, notRemoved}
 use Rattle.rules.specs.Place.{Spot, nowhere, spot, spotOf}
@@ -19,7 +20,7 @@ use Rattle.rules.specs.Remove.{removeSpot, remove}
 use Rattle.rules.specs.Sound.{freeSlots, Sound}
 use Rattle.rules.specs.Changes.{SameHeader, Takes, AfterRemoving}
 use Rattle.rules.proofs.Kept.{sound-takes}
-use Rattle.rules.proofs.Places.{SpotIs, spot-is, spot-entries}
+use Rattle.rules.proofs.Places.{SpotIs, spot-is}
 
 -- the live slots of a sound queue are distinct
 pub live-once : {q : Queue} → Sound q → Once (slots (entries q))
@@ -41,15 +42,14 @@ module _ (h : Handle) (q : Queue) (s : Sound q) where
   removes (spot a x r b p) n =
       let l = before p ++ inorder a in
       let g = inorder b ++ after p in
-      let old : entries q ≡ l ++ (x ∷ g) = ap inorder (sym (n .1)) ∙ spot-entries a x r b p in
+      let old : entries q ≡ l ++ (x ∷ g) = ap inorder (sym (n .1)) ∙ node-around a x r b p in
       let ranks : Ranks (plug (fork a x r b) p) = rw (n .1) (ranked→ranks (q .tree) (s .ranked)) in
-      let shows : Shows (removeAt (fork a x r b) p) (around (inorder a ++ inorder b) p) = removeAt-shows a x r b p ranks in
-      let now : inorder (removeAt (fork a x r b) p) ≡ l ++ g = shows .order ∙ simp append-assoc in
+      let now : inorder (removeAt (fork a x r b) p) ≡ l ++ g = removed-around a x r b p ranks in
       let takes : Takes q (removeSpot (spot a x r b p) q .1) x =
       record { header = record { capacity = refl; top = refl }; gives-back = refl; smaller = l; greater = g; old = old; now = now } in
       record {
         does = (x, n .0, refl, refl, takes);
-        sound = sound-takes s takes (ranks→ranked (removeAt (fork a x r b) p) (shows .ranks)) (rw now (drop-one Before l x g (rw old at (s .rising))));
+        sound = sound-takes s takes (ranks→ranked (removeAt (fork a x r b) p) (removeAt-shows a x r b p ranks .ranks)) (rw now (drop-one Before l x g (rw old at (s .rising))));
       }
 
   pub remove-both : Removes h q (remove h q)

@@ -1,4 +1,4 @@
--- Empty and Manual insertion: the answer says what was done to the queue, and the queue stays sound.
+-- Normal, Empty and Manual insertion: the answer says what was done to the queue, and the queue stays sound.
 -- A reader may rely on these for every key, value, handle and side, and every sound queue.
 use mathlib.Core.Path.{_≡_, refl, sym, ap, _∙_}
 use mathlib.Core.List.{List, [], _∷_, _++_}
@@ -7,21 +7,39 @@ use native.Mathlib.Decide.{ℕ-discrete}
 use Rattle.wavl.specs.Entry.{Entry, Before, Rising}
 use Rattle.wavl.specs.Tree.{Side, left, right, Tree, tip, fork, inorder}
 use Rattle.wavl.specs.Way.{Way, Place, place, plug, before, after, neighbour}
-use Rattle.wavl.specs.Search.{besideOf}
+use Rattle.wavl.specs.Search.{search, besideOf}
 use Rattle.wavl.proofs.Order.{choose-cases}
+use Rattle.wavl.proofs.Rising.{node-around}
+use Rattle.wavl.proofs.Found.{Searched, search-right}
 use Rattle.rules.specs.Queue.{Handle, Queue, entries}
 use Rattle.rules.specs.Answers.{Inserted, notInserted, failedOrdRequirement}
 use Rattle.rules.specs.Place.{Spot, nowhere, spot, spotOf}
-use Rattle.rules.specs.Insert.{Where, less, equal, greater, addAt, swapAt, keyed, decBetween, addBeside, placeEmpty, insertEmpty, placeManual, insertManual}
+use Rattle.rules.specs.Insert.{Where, less, equal, greater, addAt, swapAt, keyed, decBetween, addBeside, placeNormal, insertNormal, placeEmpty, insertEmpty, placeManual, insertManual}
 use Rattle.rules.specs.Sound.{Sound}
 use Rattle.rules.specs.Changes.{AfterInserting}
-use Rattle.rules.proofs.Places.{SpotIs, spot-entries, beside-is, beside-plug}
+use Rattle.rules.proofs.Places.{SpotIs, beside-is, beside-plug}
 use Rattle.rules.proofs.Removing.{sound-spot}
 use Rattle.rules.proofs.Inserting.{Inserts, FitsAt, add-at, swap-at, Sides, between-sides}
 
 module _ (key value : ℕ) (q : Queue) (s : Sound q) where
   refused : (n : ℕ) → Inserts key value q (notInserted n, q)
   refused n = record { does = refl; sound = s }
+
+  -- Normal
+  place-normal : (w : Place) → Searched key (q .tree) w → Inserts key value q (placeNormal w key value q)
+  unfolding placeNormal
+  place-normal (place tip p) f = add-at key value q s p (f .back) (record { above = f .smaller; below = f .greater })
+  place-normal (place (fork a x r b) p) f = swap-at key value q s a x r b p (f .back) (f .key-is)
+
+  pub normal-both : Inserts key value q (insertNormal key value q)
+  unfolding insertNormal
+  normal-both = place-normal (search key (q .tree)) (search-right key (q .tree) (s .rising))
+
+  pub normal-does : AfterInserting key value q (insertNormal key value q .0) (insertNormal key value q .1)
+  normal-does = normal-both .does
+
+  pub normal-sound : Sound (insertNormal key value q .1)
+  normal-sound = normal-both .sound
 
   -- Empty
   place-empty : (t : Tree) → q .tree ≡ t → Inserts key value q (placeEmpty t key value q)
@@ -43,7 +61,7 @@ module _ (key value : ℕ) (q : Queue) (s : Sound q) where
   add-beside : (d : Side) (a : Tree) (x : Entry) (r : ℕ) (b : Tree) (p : Way) → plug (fork a x r b) p ≡ q .tree
       → Inserts key value q (addBeside d x (place (fork a x r b) p) key value q)
   add-beside d a x r b p w =
-      let old : entries q ≡ (before p ++ inorder a) ++ (x ∷ (inorder b ++ after p)) = ap inorder (sym w) ∙ spot-entries a x r b p in
+      let old : entries q ≡ (before p ++ inorder a) ++ (x ∷ (inorder b ++ after p)) = ap inorder (sym w) ∙ node-around a x r b p in
       let c = place (fork a x r b) p in
       choose-cases (Inserts key value q) (decBetween d (keyed key) x (neighbour d c)) (addAt key value (besideOf d c) q) (notInserted failedOrdRequirement, q)
       (λ f.
