@@ -5,3 +5,4 @@ pub mod Places
 pub mod Removing
 pub mod Inserting
 pub mod Insertions
+pub mod Told

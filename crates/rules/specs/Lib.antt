@@ -6,5 +6,6 @@ pub mod Remove
 pub mod Look
 pub mod Sound
 pub mod Changes
+pub mod Table
 pub mod Calls
 pub mod Bench

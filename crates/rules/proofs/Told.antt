@@ -1,0 +1,208 @@
+-- Each call's answer, for every input and every sound queue: specs/Table holds of it.
+-- A reader may rely on the theorems named CALL-answers; proofs/Refusals draws document 01's table from them.
+use mathlib.Core.Path.{_≡_, refl, sym, ap, _∙_, subst}
+use mathlib.Core.Logic.{_⊎_, inl, inr}
+use mathlib.Core.List.{List, [], _∷_, _++_, cons≢nil, head-eq-of-cons-eq, tail-eq-of-cons-eq}
+use mathlib.Core.Option.{Option, none, some}
+use Prim.Native.Nat.{ℕ}
+use native.Mathlib.Decide.{ℕ-discrete}
+use native.Mathlib.Omega.{arith}
+use Rattle.wavl.specs.Lists.{All, In, Differ, Once, choose, first, last}
+use Rattle.wavl.specs.Entry.{Entry, slots}
+use Rattle.wavl.specs.Tree.{Side, left, right, Tree, tip, fork, inorder}
+use Rattle.wavl.specs.Way.{Way, Place, place, plug, before, after, neighbour}
+use Rattle.wavl.specs.Search.{search, besideOf}
+use Rattle.wavl.proofs.Lists.{all-in, in-slots, in-middle}
+use Rattle.wavl.proofs.Order.{choose-cases}
+use Rattle.wavl.proofs.Rising.{node-around}
+use Rattle.wavl.proofs.Found.{Searched, search-right}
+use Rattle.rules.specs.Queue.{Handle, handleOf, Queue, entries, Holds, Has, Names, Live}
+use Rattle.rules.specs.Answers.{Inserted, new, replacing, notInserted, failedOrdRequirement, Stepped, stands, ends, notStepped}
+use Rattle.rules.specs.Place.{Spot, nowhere, spot, spotOf}
+use Rattle.rules.specs.Insert.{Where, less, equal, greater, keyed, Between, decBetween, addWith, addAt, swapAt, addBeside, placeNormal, insertNormal, placeEmpty, insertEmpty, placeManual, insertManual}
+use Rattle.rules.specs.Remove.{removeSpot, remove}
+use Rattle.rules.specs.Look.{readSpot, read, standsAt, stepSpot, stepTo}
+use Rattle.rules.specs.Sound.{Sound}
+use Rattle.rules.specs.Table.{NoSlot, NextFree, NormalAnswers, NoEntries, EmptyAnswers, Target, KeyFits, ManualFits, Adding, ManualAnswers, RemoveAnswers, ReadAnswers, Facing, StepAnswers}
+use Rattle.rules.proofs.Places.{SpotIs}
+use Rattle.rules.proofs.Removing.{live-once, sound-spot}
+
+-- Normal
+module _ (key value : ℕ) (q : Queue) (s : Sound q) where
+  normal-adds : (p : Way) → ¬ Has key q → (f : List Handle) → q .free ≡ f → NormalAnswers key q (addWith f key value p q .0)
+  unfolding addWith
+  normal-adds p n [] e = (refl, n, e)
+  normal-adds p n (h ∷ f) e = (n, (f, e))
+
+  normal-place : (w : Place) → Searched key (q .tree) w → NormalAnswers key q (placeNormal w key value q .0)
+  unfolding placeNormal
+  normal-place (place tip p) f = normal-adds p (λ i. f .absent (i .0) (i .1) (i .2)) (q .free) refl
+  normal-place (place (fork a x r b) p) f = (x, f .present, (refl, refl), f .key-is, refl)
+
+  pub normal-answers : NormalAnswers key q (insertNormal key value q .0)
+  unfolding insertNormal
+  normal-answers = normal-place (search key (q .tree)) (search-right key (q .tree) (s .rising))
+
+-- Empty, on any queue
+module _ (key value : ℕ) (q : Queue) where
+  empty-adds : NoEntries q → (f : List Handle) → q .free ≡ f → EmptyAnswers q (addWith f key value [] q .0)
+  unfolding addWith
+  empty-adds n [] e = inr (refl, n, e)
+  empty-adds n (h ∷ f) e = (n, (f, e))
+
+  has-entries : (a : Tree) (x : Entry) (r : ℕ) (b : Tree) → ¬ (inorder (fork a x r b) ≡ [])
+  unfolding inorder
+  has-entries a x r b = go (inorder a)
+    where
+      go : (l : List Entry) → ¬ (l ++ (x ∷ inorder b) ≡ [])
+      go [] e = cons≢nil e
+      go (y ∷ l) e = cons≢nil e
+
+  empty-place : (t : Tree) → q .tree ≡ t → EmptyAnswers q (placeEmpty t key value q .0)
+  unfolding placeEmpty inorder
+  empty-place tip e = empty-adds (ap inorder e) (q .free) refl
+  empty-place (fork a x r b) e = inl (refl, λ n. has-entries a x r b (ap inorder (sym e) ∙ n))
+
+  pub empty-answers : EmptyAnswers q (insertEmpty key value q .0)
+  unfolding insertEmpty
+  empty-answers = empty-place (q .tree) refl
+
+-- A handle has one target: with distinct slots a chain is split at a slot in one way.
+one-split : (a : List Entry) (x : Entry) (b a′ : List Entry) (x′ : Entry) (b′ : List Entry) → Once (slots (a ++ (x ∷ b)))
+    → a ++ (x ∷ b) ≡ a′ ++ (x′ ∷ b′) → x .slot ≡ x′ .slot → (a ≡ a′) × (x ≡ x′) × (b ≡ b′)
+unfolding slots
+one-split [] x b [] x′ b′ o e i = (refl, head-eq-of-cons-eq e, tail-eq-of-cons-eq e)
+one-split [] x b (y ∷ a′) x′ b′ o e i =
+    let there : In x′ b = rw (tail-eq-of-cons-eq e) (in-middle x′ a′ b′) in
+    absurd (all-in _ (slots b) (o .0) (x′ .slot) (in-slots x′ b there) i)
+one-split (y ∷ a) x b [] x′ b′ o e i =
+    let same : y .slot ≡ x .slot = ap (λ (z : Entry). z .slot) (head-eq-of-cons-eq e) ∙ sym i in
+    absurd (all-in _ (slots (a ++ (x ∷ b))) (o .0) (x .slot) (in-slots x (a ++ (x ∷ b)) (in-middle x a b)) same)
+one-split (y ∷ a) x b (y′ ∷ a′) x′ b′ o e i =
+    let r = one-split a x b a′ x′ b′ (o .1) (tail-eq-of-cons-eq e) i in
+    (ap (λ l. y ∷ l) (r .0) ∙ ap (λ z. z ∷ a′) (head-eq-of-cons-eq e), r .1, r .2)
+
+-- a handle that names an entry is that entry's
+pub names-handle : (h : Handle) (x : Entry) → Names h x → handleOf x ≡ h
+names-handle h x n = rw (n .0, n .1)
+
+-- the target at a spot
+abbrev target-at : (h : Handle) (q : Queue) (a : Tree) (x : Entry) (r : ℕ) (b : Tree) (p : Way) → SpotIs h q (spot a x r b p) → Target h q
+target-at h q a x r b p n = record {
+  smaller = before p ++ inorder a;
+  target = x;
+  greater = inorder b ++ after p;
+  chain = ap inorder (sym (n .1)) ∙ node-around a x r b p;
+  named = n .0;
+}
+
+module _ (h : Handle) (q : Queue) (s : Sound q) where
+  pub target-holds : (t : Target h q) → Holds q (t .target)
+  target-holds t = rw (t .chain) (in-middle (t .target) (t .smaller) (t .greater))
+
+  pub target-live : Target h q → Live h q
+  target-live t = (t .target, target-holds t, t .named)
+
+  -- what fits at one target of a handle fits at any other
+  pub fits-move : (w : Where) (key : ℕ) (t u : Target h q) → KeyFits w key (t .smaller) (t .target) (t .greater) → KeyFits w key (u .smaller) (u .target) (u .greater)
+  fits-move w key t u f =
+      let r = one-split (t .smaller) (t .target) (t .greater) (u .smaller) (u .target) (u .greater)
+      (rw (t .chain) at (live-once s)) (sym (t .chain) ∙ u .chain) (t .named .0 ∙ sym (u .named .0)) in
+      rw (← (r .0), ← (r .1), ← (r .2)) f
+
+-- Manual
+module _ (h : Handle) (key value : ℕ) (q : Queue) (s : Sound q) where
+  manual-adds : (w : Where) → Adding w → ManualFits h w key q → (p : Way) (f : List Handle) → q .free ≡ f → ManualAnswers h w key q (addWith f key value p q .0)
+  unfolding addWith
+  manual-adds w k m p [] e = inr (refl, m, k, e)
+  manual-adds w k m p (g ∷ f) e = (m, k, (f, e))
+
+  module _ (a : Tree) (x : Entry) (r : ℕ) (b : Tree) (p : Way) (n : SpotIs h q (spot a x r b p)) where
+    unfit : (w : Where) → ¬ KeyFits w key (before p ++ inorder a) x (inorder b ++ after p) → ManualAnswers h w key q (notInserted failedOrdRequirement)
+    unfit w f = inl (refl, λ m. f (fits-move h q s w key (m .0) (target-at h q a x r b p n) (m .1)))
+
+    manual-beside : (w : Where) → Adding w → (d : Side)
+        → (Between d (keyed key) x (neighbour d (place (fork a x r b) p)) → KeyFits w key (before p ++ inorder a) x (inorder b ++ after p))
+        → (KeyFits w key (before p ++ inorder a) x (inorder b ++ after p) → Between d (keyed key) x (neighbour d (place (fork a x r b) p)))
+        → ManualAnswers h w key q (addBeside d x (place (fork a x r b) p) key value q .0)
+    manual-beside w k d there back =
+        let c = place (fork a x r b) p in
+        choose-cases (λ o. ManualAnswers h w key q (o .0)) (decBetween d (keyed key) x (neighbour d c)) (addAt key value (besideOf d c) q) (notInserted failedOrdRequirement, q)
+        (λ f. manual-adds w k (target-at h q a x r b p n, there f) (besideOf d c) (q .free) refl)
+        (λ f. unfit w (λ g. f (back g)))
+
+    manual-at : (w : Where) → ManualAnswers h w key q (placeManual (spot a x r b p) w key value q .0)
+    unfolding placeManual neighbour
+    manual-at less = manual-beside less tt left (λ f. f) (λ f. f)
+    manual-at greater = manual-beside greater tt right (λ f. f) (λ f. f)
+    manual-at equal =
+        choose-cases (λ o. ManualAnswers h equal key q (o .0)) (ℕ-discrete key (x .key)) (swapAt value a x r b p q) (notInserted failedOrdRequirement, q)
+        (λ e.
+        let t = target-at h q a x r b p n in
+        ((t, e), refl, names-handle h x (n .0), (x, target-holds h q s t, n .0, refl)))
+        (λ e. unfit equal e)
+
+  manual-spot : (c : Spot) → SpotIs h q c → (w : Where) → ManualAnswers h w key q (placeManual c w key value q .0)
+  unfolding placeManual
+  manual-spot nowhere n w = inl (refl, λ m. n (target-live h q s (m .0)))
+  manual-spot (spot a x r b p) n w = manual-at a x r b p n w
+
+  pub manual-answers : (w : Where) → ManualAnswers h w key q (insertManual h w key value q .0)
+  unfolding insertManual
+  manual-answers w = manual-spot (spotOf h q) (sound-spot h s) w
+
+-- the ends of a chain that face an entry
+last-split : (z : Entry) (l : List Entry) → (k : List Entry) × (y : Entry) × (z ∷ l ≡ k ++ (y ∷ [])) × (last (z ∷ l) ≡ some y)
+unfolding last
+last-split z [] = ([], z, refl, refl)
+last-split z (w ∷ l) = let i = last-split w l in (z ∷ i .0, i .1, ap (λ m. z ∷ m) (i .2), i .3)
+
+faces-left : (a : List Entry) (x : Entry) (b : List Entry) → Facing left a x b (standsAt (last a))
+unfolding standsAt last
+faces-left [] x b = refl
+faces-left (z ∷ a) x b = let i = last-split z a in rw (i .3) (i .0, i .1, i .2, refl)
+
+faces-right : (a : List Entry) (x : Entry) (b : List Entry) → Facing right a x b (standsAt (first b))
+unfolding standsAt first
+faces-right a x [] = refl
+faces-right a x (y ∷ b) = (y, b, refl, refl)
+
+-- Removal, reading and stepping
+module _ (h : Handle) (q : Queue) (s : Sound q) where
+  remove-spot : (c : Spot) → SpotIs h q c → RemoveAnswers h q (removeSpot c q .0)
+  unfolding removeSpot
+  remove-spot nowhere n = (refl, n)
+  remove-spot (spot a x r b p) n = (x, target-holds h q s (target-at h q a x r b p n), n .0, refl, refl)
+
+  pub remove-answers : RemoveAnswers h q (remove h q .0)
+  unfolding remove
+  remove-answers = remove-spot (spotOf h q) (sound-spot h s)
+
+  read-spot : (c : Spot) → SpotIs h q c → ReadAnswers h q (readSpot c)
+  unfolding readSpot
+  read-spot nowhere n = (refl, n)
+  read-spot (spot a x r b p) n = (x, target-holds h q s (target-at h q a x r b p n), n .0, refl, refl)
+
+  pub read-answers : ReadAnswers h q (read h q)
+  unfolding read
+  read-answers = read-spot (spotOf h q) (sound-spot h s)
+
+  step-facing : (d : Side) (t : Target h q) (o : Stepped) → Facing d (t .smaller) (t .target) (t .greater) o → StepAnswers d h q o
+  step-facing left t (stands g) f = (t, f)
+  step-facing left t ends f = (t, f)
+  step-facing left t (notStepped n) f = absurd f
+  step-facing right t (stands g) f = (t, f)
+  step-facing right t ends f = (t, f)
+  step-facing right t (notStepped n) f = absurd f
+
+  step-spot : (d : Side) (c : Spot) → SpotIs h q c → StepAnswers d h q (stepSpot d c)
+  unfolding stepSpot neighbour
+  step-spot d nowhere n = (refl, n)
+  step-spot left (spot a x r b p) n =
+      step-facing left (target-at h q a x r b p n) (standsAt (last (before p ++ inorder a))) (faces-left (before p ++ inorder a) x (inorder b ++ after p))
+  step-spot right (spot a x r b p) n =
+      step-facing right (target-at h q a x r b p n) (standsAt (first (inorder b ++ after p))) (faces-right (before p ++ inorder a) x (inorder b ++ after p))
+
+  pub step-answers : (d : Side) → StepAnswers d h q (stepTo d h q)
+  unfolding stepTo
+  step-answers d = step-spot d (spotOf h q) (sound-spot h s)
