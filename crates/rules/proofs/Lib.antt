@@ -6,3 +6,5 @@ pub mod Removing
 pub mod Inserting
 pub mod Insertions
 pub mod Told
+pub mod Refusals
+pub mod Unchanged

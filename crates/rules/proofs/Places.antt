@@ -46,6 +46,7 @@ same-slot a x b once y i e = go (in-drop y a x b i)
   where
     differs : All (Differ (x .slot)) (slots a ++ slots b)
     differs = once-differ (slots a) (x .slot) (slots b) (rw (slots-put a x b) at once)
+
     go : (y ≡ x) ⊎ In y (a ++ b) → y ≡ x
     go (inl f) = f
     go (inr j) = absurd (all-in _ (slots a ++ slots b) differs (y .slot) (rw (slots-append a b) at (in-slots y (a ++ b) j)) (sym e))
@@ -63,6 +64,7 @@ module _ (h : Handle) (q : Queue) (once : Once (slots (entries q))) where
     where
       whole : entries q ≡ (before w ++ inorder a) ++ (x ∷ (inorder b ++ after w))
       whole = ap inorder (sym (f .1)) ∙ node-around a x r b w
+
       go : (d : Dec (x .generation ≡ h .generation)) → SpotIs h q (choose d (spot a x r b w) nowhere)
       go (yes e) = ((f .0, e), f .1)
       go (no e) = λ l.
