@@ -8,3 +8,6 @@ pub mod Insertions
 pub mod Told
 pub mod Refusals
 pub mod Unchanged
+pub mod Handles
+pub mod Looking
+pub mod History

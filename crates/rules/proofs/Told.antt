@@ -68,7 +68,7 @@ module _ (key value : ℕ) (q : Queue) where
   empty-answers = empty-place (q .tree) refl
 
 -- A handle has one target: with distinct slots a chain is split at a slot in one way.
-one-split : (a : List Entry) (x : Entry) (b a′ : List Entry) (x′ : Entry) (b′ : List Entry) → Once (slots (a ++ (x ∷ b)))
+pub one-split : (a : List Entry) (x : Entry) (b a′ : List Entry) (x′ : Entry) (b′ : List Entry) → Once (slots (a ++ (x ∷ b)))
     → a ++ (x ∷ b) ≡ a′ ++ (x′ ∷ b′) → x .slot ≡ x′ .slot → (a ≡ a′) × (x ≡ x′) × (b ≡ b′)
 unfolding slots
 one-split [] x b [] x′ b′ o e i = (refl, head-eq-of-cons-eq e, tail-eq-of-cons-eq e)
@@ -87,7 +87,7 @@ pub names-handle : (h : Handle) (x : Entry) → Names h x → handleOf x ≡ h
 names-handle h x n = rw (n .0, n .1)
 
 -- the target at a spot
-abbrev target-at : (h : Handle) (q : Queue) (a : Tree) (x : Entry) (r : ℕ) (b : Tree) (p : Way) → SpotIs h q (spot a x r b p) → Target h q
+abbrev pub target-at : (h : Handle) (q : Queue) (a : Tree) (x : Entry) (r : ℕ) (b : Tree) (p : Way) → SpotIs h q (spot a x r b p) → Target h q
 target-at h q a x r b p n = record {
   smaller = before p ++ inorder a;
   target = x;

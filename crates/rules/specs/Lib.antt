@@ -5,7 +5,9 @@ pub mod Insert
 pub mod Remove
 pub mod Look
 pub mod Sound
+pub mod LayOut
 pub mod Changes
+pub mod Handles
 pub mod Table
 pub mod Calls
 pub mod Bench

@@ -3,12 +3,12 @@
 use mathlib.Core.Path.{_≡_}
 use mathlib.Core.Logic.{_⊎_}
 use mathlib.Core.List.{List, [], _∷_, _++_}
-use Prim.Native.Nat.{ℕ}
+use Prim.Native.Nat.{ℕ, _<_}
 use Rattle.wavl.specs.Lists.{first, last}
 use Rattle.wavl.specs.Entry.{Entry}
 use Rattle.wavl.specs.Tree.{Side, left, right}
 use Rattle.rules.specs.Queue.{Handle, handleOf, Queue, entries, Holds, Has, Names, Live}
-use Rattle.rules.specs.Answers.{Inserted, new, replacing, notInserted, Removed, removed, notRemoved, Read, reads, notRead, Stepped, stands, ends, notStepped, notWithinCapacity, failedOrdRequirement, invalidPtr}
+use Rattle.rules.specs.Answers.{Inserted, new, replacing, notInserted, Removed, removed, notRemoved, Read, reads, notRead, Stepped, stands, ends, notStepped, Found, equalAt, beside, noEntry, notWithinCapacity, failedOrdRequirement, invalidPtr}
 use Rattle.rules.specs.Insert.{Where, less, equal, greater, keyed, Between}
 
 -- "no slot is free"; or h is the next to be handed out
@@ -87,3 +87,19 @@ abbrev pub StepAnswers : Side → Handle → Queue → Stepped → Type 0
 StepAnswers d h q (stands g) = (t : Target h q) × Facing d (t .smaller) (t .target) (t .greater) (stands g)
 StepAnswers d h q ends = (t : Target h q) × Facing d (t .smaller) (t .target) (t .greater) ends
 StepAnswers d h q (notStepped n) = (n ≡ invalidPtr) × (¬ Live h q)
+
+-- Search as a call: the equal entry, or the last node with the side of it on which the key would stand, or Empty; no refusal
+abbrev pub KeyOn : Side → ℕ → Entry → Type 0
+KeyOn left key x = key < x .key
+KeyOn right key x = x .key < key
+
+abbrev pub SearchAnswers : ℕ → Queue → Found → Type 0
+SearchAnswers key q (equalAt h n) = (x : Entry) × Holds q x × Names h x × (x .key ≡ key)
+SearchAnswers key q (beside h d n) = (¬ Has key q) × ((x : Entry) × Holds q x × Names h x × KeyOn d key x)
+SearchAnswers key q (noEntry n) = (n ≡ 0) × NoEntries q
+
+-- the count that each answer carries
+abbrev pub countOf : Found → ℕ
+countOf (equalAt h n) = n
+countOf (beside h d n) = n
+countOf (noEntry n) = n
