@@ -18,10 +18,10 @@ use Rattle.wavl.proofs.Rule.{ranked→ranks}
 use Rattle.wavl.proofs.Rising.{node-around}
 use Rattle.wavl.proofs.Size.{size-length}
 use Rattle.wavl.proofs.Found.{Searched, search-right, looked-bound, looked-tight}
-use Rattle.rules.specs.Queue.{Handle, handleOf, Queue, entries, Holds, Has, Names, Live}
+use Rattle.rules.specs.Queue.{Handle, handle, handleOf, Queue, entries, Holds, Has, Names, Live}
 use Rattle.rules.specs.Answers.{Removed, removed, Read, reads, Found, equalAt, beside, noEntry, Stepped, stands, ends}
 use Rattle.rules.specs.Place.{Spot, nowhere, spot, spotOf}
-use Rattle.rules.specs.Remove.{noteOf, removeSpot, remove}
+use Rattle.rules.specs.Remove.{freed, noteOf, freeAfter, removeSpot, remove}
 use Rattle.rules.specs.Look.{readSpot, read, foundIn, searchFor, standsAt, first, last, stepSpot, stepTo, next, prev}
 use Rattle.rules.specs.Sound.{Sound}
 use Rattle.rules.specs.Table.{Target, NoEntries, KeyOn, SearchAnswers, countOf}
@@ -55,6 +55,35 @@ module _ (h : Handle) (q : Queue) (s : Sound q) (t : Target h q) where
   pub remove-is : remove h q .0 ≡ removed (t .target .key) (t .target .value) (noteOf (decLt (t .target .generation) (q .top)))
   unfolding remove
   remove-is = remove-at (spotOf h q) (sound-spot h s)
+
+  freed-yes : (x : Entry) (d : Dec (x .generation < q .top)) → x .generation < q .top → freed d (x .slot) (q .free) ≡ handle (x .slot) (suc (x .generation)) ∷ q .free
+  unfolding freed
+  freed-yes x (yes l) m = refl
+  freed-yes x (no l) m = absurd (l m)
+
+  freed-no : (x : Entry) (d : Dec (x .generation < q .top)) → ¬ (x .generation < q .top) → freed d (x .slot) (q .free) ≡ q .free
+  unfolding freed
+  freed-no x (yes l) m = absurd (m l)
+  freed-no x (no l) m = refl
+
+  free-at : (c : Spot) → SpotIs h q c → removeSpot c q .1 .free ≡ freeAfter (t .target) q
+  unfolding removeSpot
+  free-at nowhere n = absurd (n (target-live h q s t))
+  free-at (spot a x r b p) n = let u = same-target (target-at h q a x r b p n) in rw (u .1)
+
+  -- below the top generation the slot goes to the front of the free list, one generation up; at the top it goes nowhere
+  pub remove-frees : h .generation < q .top → remove h q .1 .free ≡ handle (h .slot) (suc (h .generation)) ∷ q .free
+  unfolding remove
+  remove-frees l =
+      let x = t .target in
+      let e : handle (x .slot) (suc (x .generation)) ∷ q .free ≡ handle (h .slot) (suc (h .generation)) ∷ q .free = rw (t .named .0, t .named .1) in
+      free-at (spotOf h q) (sound-spot h s) ∙ freed-yes x (decLt (x .generation) (q .top)) (rw (t .named .1) l) ∙ e
+
+  pub remove-retires : h .generation ≡ q .top → remove h q .1 .free ≡ q .free
+  unfolding remove
+  remove-retires e =
+      let n : ¬ (t .target .generation < q .top) = λ l. let g = t .named .1 in absurd (omega arith) in
+      free-at (spotOf h q) (sound-spot h s) ∙ freed-no (t .target) (decLt (t .target .generation) (q .top)) n
 
   step-left : (c : Spot) → SpotIs h q c → stepSpot left c ≡ standsAt (Lists.last (t .smaller))
   unfolding stepSpot neighbour
