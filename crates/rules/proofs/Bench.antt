@@ -13,8 +13,8 @@ use Rattle.rules.specs.Place.{ofGeneration, spotOf}
 use Rattle.rules.specs.Insert.{addWith, placeNormal, insertNormal, placeEmpty, insertEmpty, placeManual, insertManual}
 use Rattle.rules.specs.Remove.{freed, noteOf, removeSpot, remove}
 use Rattle.rules.specs.Calls.{answer, run}
-use Rattle.rules.specs.Bench.{key, countsOf, listing, outcome, Comes, put, added, take, took, ent, line, counts, bench, scriptA, answersA, runA, runB, runC, runD, runE, runF, runG, runH, runI, runJ, runs}
+use Rattle.rules.specs.Bench.{key, countsOf, listing, outcome, Comes, put, added, take, took, ent, line, counts, from1, from3, from4, bench, scriptA, answersA, runA, runB, runC, runD, runE, runF, runG, runH, runI, runJ, runs}
 
 pub starred : All Comes runs
-unfolding decLe decLt ℕ-discrete choose first last inorder size plug before after neighbour replaceAt placeRound byPlace insertClimb insertAt takeRound byTake removeClimb settle endmost vacateEnd vacate removeAt keyRound byKey find findSlot besideOf freshFrom fresh ofGeneration spotOf addWith placeNormal insertNormal placeEmpty insertEmpty placeManual insertManual freed noteOf removeSpot remove answer run key countsOf listing outcome put added take took ent line counts bench scriptA answersA runA runB runC runD runE runF runG runH runI runJ
+unfolding decLe decLt ℕ-discrete choose first last inorder size plug before after neighbour replaceAt placeRound byPlace insertClimb insertAt takeRound byTake removeClimb settle endmost vacateEnd vacate removeAt keyRound byKey find findSlot besideOf freshFrom fresh ofGeneration spotOf addWith placeNormal insertNormal placeEmpty insertEmpty placeManual insertManual freed noteOf removeSpot remove answer run key countsOf listing outcome put added take took ent line counts from1 from3 from4 bench scriptA answersA runA runB runC runD runE runF runG runH runI runJ
 starred = (refl, (refl, (refl, (refl, (refl, (refl, (refl, (refl, (refl, (refl, tt))))))))))

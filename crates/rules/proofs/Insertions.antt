@@ -10,6 +10,7 @@ use Rattle.wavl.specs.Way.{Way, Place, place, plug, before, after, neighbour}
 use Rattle.wavl.specs.Search.{search, besideOf}
 use Rattle.wavl.proofs.Order.{choose-cases}
 use Rattle.wavl.proofs.Rising.{node-around}
+use Rattle.wavl.proofs.Located.{beside-whole}
 use Rattle.wavl.proofs.Found.{Searched, search-right}
 use Rattle.rules.specs.Queue.{Handle, Queue, entries}
 use Rattle.rules.specs.Answers.{Inserted, notInserted, failedOrdRequirement}
@@ -17,7 +18,7 @@ use Rattle.rules.specs.Place.{Spot, nowhere, spot, spotOf}
 use Rattle.rules.specs.Insert.{Where, less, equal, greater, addAt, swapAt, keyed, decBetween, addBeside, placeNormal, insertNormal, placeEmpty, insertEmpty, placeManual, insertManual}
 use Rattle.rules.specs.Sound.{Sound}
 use Rattle.rules.specs.Changes.{AfterInserting}
-use Rattle.rules.proofs.Places.{SpotIs, beside-is, beside-plug}
+use Rattle.rules.proofs.Places.{SpotIs, beside-is}
 use Rattle.rules.proofs.Removing.{sound-spot}
 use Rattle.rules.proofs.Inserting.{Inserts, FitsAt, add-at, swap-at, Sides, between-sides}
 
@@ -67,7 +68,7 @@ module _ (key value : ℕ) (q : Queue) (s : Sound q) where
       (λ f.
       let two = between-sides d key a x r b p (rw old at (s .rising)) f in
       let i = beside-is d a x r b p in
-      add-at key value q s (besideOf d c) (beside-plug d a x r b p ∙ w) (record { above = rw (i .0) (two .above); below = rw (i .1) (two .below) }))
+      add-at key value q s (besideOf d c) (beside-whole d a x r b p ∙ w) (record { above = rw (i .0) (two .above); below = rw (i .1) (two .below) }))
       (λ f. refused failedOrdRequirement)
 
   place-manual : (h : Handle) (c : Spot) → SpotIs h q c → (w : Where) → Inserts key value q (placeManual c w key value q)

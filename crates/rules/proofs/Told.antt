@@ -2,20 +2,21 @@
 -- A reader may rely on the theorems named CALL-answers; proofs/Refusals draws document 01's table from them.
 use mathlib.Core.Path.{_≡_, refl, sym, ap, _∙_, subst}
 use mathlib.Core.Logic.{_⊎_, inl, inr}
-use mathlib.Core.List.{List, [], _∷_, _++_, cons≢nil, head-eq-of-cons-eq, tail-eq-of-cons-eq}
+use mathlib.Core.List.{List, [], _∷_, _++_, cons≢nil}
 use mathlib.Core.Option.{Option, none, some}
 use Prim.Native.Nat.{ℕ}
 use native.Mathlib.Decide.{ℕ-discrete}
 use native.Mathlib.Omega.{arith}
-use Rattle.wavl.specs.Lists.{All, In, Differ, Once, choose, first, last}
+use Rattle.wavl.specs.Lists.{Once, first, last}
 use Rattle.wavl.specs.Entry.{Entry, slots}
 use Rattle.wavl.specs.Tree.{Side, left, right, Tree, tip, fork, inorder}
 use Rattle.wavl.specs.Way.{Way, Place, place, plug, before, after, neighbour}
 use Rattle.wavl.specs.Search.{search, besideOf}
-use Rattle.wavl.proofs.Lists.{all-in, in-slots, in-middle}
+use Rattle.wavl.proofs.Lists.{in-middle}
 use Rattle.wavl.proofs.Order.{choose-cases}
 use Rattle.wavl.proofs.Rising.{node-around}
 use Rattle.wavl.proofs.Found.{Searched, search-right}
+use Rattle.wavl.proofs.Chain.{split-unique}
 use Rattle.rules.specs.Queue.{Handle, handleOf, Queue, entries, Holds, Has, Names, Live}
 use Rattle.rules.specs.Answers.{Inserted, new, replacing, notInserted, failedOrdRequirement, Stepped, stands, ends, notStepped}
 use Rattle.rules.specs.Place.{Spot, nowhere, spot, spotOf}
@@ -24,7 +25,7 @@ use Rattle.rules.specs.Remove.{removeSpot, remove}
 use Rattle.rules.specs.Look.{readSpot, read, standsAt, stepSpot, stepTo}
 use Rattle.rules.specs.Sound.{Sound}
 use Rattle.rules.specs.Table.{NoSlot, NextFree, NormalAnswers, NoEntries, EmptyAnswers, Target, KeyFits, ManualFits, Adding, ManualAnswers, RemoveAnswers, ReadAnswers, Facing, StepAnswers}
-use Rattle.rules.proofs.Places.{SpotIs}
+use Rattle.rules.proofs.Places.{SpotIs, same-slot}
 use Rattle.rules.proofs.Removing.{live-once, sound-spot}
 
 -- Normal
@@ -70,17 +71,10 @@ module _ (key value : ℕ) (q : Queue) where
 -- A handle has one target: with distinct slots a chain is split at a slot in one way.
 pub one-split : (a : List Entry) (x : Entry) (b a′ : List Entry) (x′ : Entry) (b′ : List Entry) → Once (slots (a ++ (x ∷ b)))
     → a ++ (x ∷ b) ≡ a′ ++ (x′ ∷ b′) → x .slot ≡ x′ .slot → (a ≡ a′) × (x ≡ x′) × (b ≡ b′)
-unfolding slots
-one-split [] x b [] x′ b′ o e i = (refl, head-eq-of-cons-eq e, tail-eq-of-cons-eq e)
-one-split [] x b (y ∷ a′) x′ b′ o e i =
-    let there : In x′ b = rw (tail-eq-of-cons-eq e) (in-middle x′ a′ b′) in
-    absurd (all-in _ (slots b) (o .0) (x′ .slot) (in-slots x′ b there) i)
-one-split (y ∷ a) x b [] x′ b′ o e i =
-    let same : y .slot ≡ x .slot = ap (λ (z : Entry). z .slot) (head-eq-of-cons-eq e) ∙ sym i in
-    absurd (all-in _ (slots (a ++ (x ∷ b))) (o .0) (x .slot) (in-slots x (a ++ (x ∷ b)) (in-middle x a b)) same)
-one-split (y ∷ a) x b (y′ ∷ a′) x′ b′ o e i =
-    let r = one-split a x b a′ x′ b′ (o .1) (tail-eq-of-cons-eq e) i in
-    (ap (λ l. y ∷ l) (r .0) ∙ ap (λ z. z ∷ a′) (head-eq-of-cons-eq e), r .1, r .2)
+one-split a x b a′ x′ b′ o e i =
+    let j : x′ ≡ x = same-slot a x b o x′ (rw e (in-middle x′ a′ b′)) (sym i) in
+    let r = split-unique a x b a′ b′ o (e ∙ ap (λ z. a′ ++ (z ∷ b′)) j) in
+    (r .0, sym j, r .1)
 
 -- a handle that names an entry is that entry's
 pub names-handle : (h : Handle) (x : Entry) → Names h x → handleOf x ≡ h

@@ -43,13 +43,14 @@ listing (fork a x r b) = listing a ++ (lineOf x r ∷ listing b)
 pub record Outcome : Type 0 where
   pub answers : List Answer
   pub tree : Tree
+  pub free : List Handle
   pub counts : Counts
   pub lines : List Line
 
 unfoldable pub outcome : List Call → ℕ → ℕ → Outcome
 outcome script capacity top =
     let r = run script (fresh capacity top) in
-    record { answers = r .0; tree = r .1 .tree; counts = countsOf (r .1); lines = listing (r .1 .tree) }
+    record { answers = r .0; tree = r .1 .tree; free = r .1 .free; counts = countsOf (r .1); lines = listing (r .1 .tree) }
 
 pub record Run : Type 0 where
   pub capacity : ℕ
@@ -83,10 +84,20 @@ line k v s g r = record { key = key k; value = v; slot = s; generation = g; rank
 unfoldable pub counts : ℕ → ℕ → ℕ → Counts
 counts l f r = record { live = l; free = f; retired = r }
 
--- "Capacity 8, top 3": the script, its answers, the tree, the counts and the listing
-unfoldable pub bench : List Call → List Answer → Tree → Counts → List Line → Run
-bench script answers tree counts lines =
-    record { capacity = 8; top = 3; script = script; result = record { answers = answers; tree = tree; counts = counts; lines = lines } }
+-- the slots of eight that were never used, from 3, 4 and 1 on
+unfoldable pub from4 : List Handle
+from4 = handle 4 1 ∷ handle 5 1 ∷ handle 6 1 ∷ handle 7 1 ∷ []
+
+unfoldable pub from3 : List Handle
+from3 = handle 3 1 ∷ from4
+
+unfoldable pub from1 : List Handle
+from1 = handle 1 1 ∷ handle 2 1 ∷ from3
+
+-- "Capacity 8, top 3": the script, its answers, the tree, the free list in its order, the counts and the listing
+unfoldable pub bench : List Call → List Answer → Tree → List Handle → Counts → List Line → Run
+bench script answers tree free counts lines =
+    record { capacity = 8; top = 3; script = script; result = record { answers = answers; tree = tree; free = free; counts = counts; lines = lines } }
 
 unfoldable pub scriptA : List Call
 scriptA = put 10 1 ∷ put 20 2 ∷ put 30 3 ∷ []
@@ -98,43 +109,43 @@ answersA = added 0 ∷ added 1 ∷ added 2 ∷ []
 unfoldable pub runA : Run
 runA = bench scriptA answersA
     (fork (leaf (ent 10 1 0)) (ent 20 2 1) 2 (leaf (ent 30 3 2)))
-    (counts 3 5 0) (line 10 1 0 1 1 ∷ line 20 2 1 1 2 ∷ line 30 3 2 1 1 ∷ [])
+    from3 (counts 3 5 0) (line 10 1 0 1 1 ∷ line 20 2 1 1 2 ∷ line 30 3 2 1 1 ∷ [])
 
 -- "*B: 10, 30, 20: the same tree."
 unfoldable pub runB : Run
 runB = bench (put 10 1 ∷ put 30 2 ∷ put 20 3 ∷ []) (added 0 ∷ added 1 ∷ added 2 ∷ [])
     (fork (leaf (ent 10 1 0)) (ent 20 3 2) 2 (leaf (ent 30 2 1)))
-    (counts 3 5 0) (line 10 1 0 1 1 ∷ line 20 3 2 1 2 ∷ line 30 2 1 1 1 ∷ [])
+    from3 (counts 3 5 0) (line 10 1 0 1 1 ∷ line 20 3 2 1 2 ∷ line 30 2 1 1 1 ∷ [])
 
 -- "*C: A and 40: ranks 20:3, 10:1, 30:2, 40:1."
 unfoldable pub runC : Run
 runC = bench (scriptA ++ (put 40 4 ∷ [])) (answersA ++ (added 3 ∷ []))
     (fork (leaf (ent 10 1 0)) (ent 20 2 1) 3 (fork tip (ent 30 3 2) 2 (leaf (ent 40 4 3))))
-    (counts 4 4 0) (line 10 1 0 1 1 ∷ line 20 2 1 1 3 ∷ line 30 3 2 1 2 ∷ line 40 4 3 1 1 ∷ [])
+    from4 (counts 4 4 0) (line 10 1 0 1 1 ∷ line 20 2 1 1 3 ∷ line 30 3 2 1 2 ∷ line 40 4 3 1 1 ∷ [])
 
 -- "*D: A, remove 20: root 10 rank 2, right child 30."
 unfoldable pub runD : Run
 runD = bench (scriptA ++ (take 1 ∷ [])) (answersA ++ (took 20 2 ∷ []))
     (fork tip (ent 10 1 0) 2 (leaf (ent 30 3 2)))
-    (counts 2 6 0) (line 10 1 0 1 2 ∷ line 30 3 2 1 1 ∷ [])
+    (handle 1 2 ∷ from3) (counts 2 6 0) (line 10 1 0 1 2 ∷ line 30 3 2 1 1 ∷ [])
 
 -- "*E: D, remove 10: root 30 rank 1."
 unfoldable pub runE : Run
 runE = bench (scriptA ++ (take 1 ∷ take 0 ∷ [])) (answersA ++ (took 20 2 ∷ took 10 1 ∷ []))
     (leaf (ent 30 3 2))
-    (counts 1 7 0) (line 30 3 2 1 1 ∷ [])
+    (handle 0 2 ∷ handle 1 2 ∷ from3) (counts 1 7 0) (line 30 3 2 1 1 ∷ [])
 
 -- "*F: C, remove 10: root 30 rank 3, children 20 and 40 rank 1."
 unfoldable pub runF : Run
 runF = bench (scriptA ++ (put 40 4 ∷ take 0 ∷ [])) (answersA ++ (added 3 ∷ took 10 1 ∷ []))
     (fork (leaf (ent 20 2 1)) (ent 30 3 2) 3 (leaf (ent 40 4 3)))
-    (counts 3 5 0) (line 20 2 1 1 1 ∷ line 30 3 2 1 3 ∷ line 40 4 3 1 1 ∷ [])
+    (handle 0 2 ∷ from4) (counts 3 5 0) (line 20 2 1 1 1 ∷ line 30 3 2 1 3 ∷ line 40 4 3 1 1 ∷ [])
 
 -- "*G: F, remove 20: root 30 rank 2, right child 40."
 unfoldable pub runG : Run
 runG = bench (scriptA ++ (put 40 4 ∷ take 0 ∷ take 1 ∷ [])) (answersA ++ (added 3 ∷ took 10 1 ∷ took 20 2 ∷ []))
     (fork tip (ent 30 3 2) 2 (leaf (ent 40 4 3)))
-    (counts 2 6 0) (line 30 3 2 1 2 ∷ line 40 4 3 1 1 ∷ [])
+    (handle 1 2 ∷ handle 0 2 ∷ from4) (counts 2 6 0) (line 30 3 2 1 2 ∷ line 40 4 3 1 1 ∷ [])
 
 -- "*H: Capacity 1, top 1: insert 5, remove it (GenerationOverflow), insert 5: refused 1, queue empty."
 unfoldable pub runH : Run
@@ -145,6 +156,7 @@ runH = record {
   result = record {
     answers = added 0 ∷ taken (removed (key 5) 1 generationOverflow) ∷ insertion (notInserted notWithinCapacity) ∷ [];
     tree = tip;
+    free = [];
     counts = counts 0 0 1;
     lines = [];
   };
@@ -159,6 +171,7 @@ runI = record {
   result = record {
     answers = added 0 ∷ insertion (replacing (handle 0 1) 1) ∷ insertion (notInserted notWithinCapacity) ∷ [];
     tree = leaf (ent 5 2 0);
+    free = [];
     counts = counts 1 0 0;
     lines = line 5 2 0 1 1 ∷ [];
   };
@@ -168,7 +181,7 @@ runI = record {
 unfoldable pub runJ : Run
 runJ = bench (manual (handle 0 1) less (key 10) 1 ∷ onEmpty (key 10) 2 ∷ []) (insertion (notInserted failedOrdRequirement) ∷ added 0 ∷ [])
     (leaf (ent 10 2 0))
-    (counts 1 7 0) (line 10 2 0 1 1 ∷ [])
+    from1 (counts 1 7 0) (line 10 2 0 1 1 ∷ [])
 
 -- the whole table
 abbrev pub runs : List Run
