@@ -2,7 +2,7 @@
 -- A reader may rely on this: every row comes out as it is written there.
 use mathlib.Core.Path.{_≡_, refl}
 use native.Mathlib.Decide.{decLe, decLt, ℕ-discrete}
-use Rattle.wavl.specs.Lists.{All, choose, first, last}
+use Rattle.wavl.specs.Lists.{choose, first, last}
 use Rattle.wavl.specs.Tree.{inorder, size}
 use Rattle.wavl.specs.Way.{plug, before, after, neighbour, replaceAt}
 use Rattle.wavl.specs.Placing.{placeRound, byPlace, insertClimb, insertAt}
@@ -13,8 +13,8 @@ use Rattle.rules.specs.Place.{ofGeneration, spotOf}
 use Rattle.rules.specs.Insert.{addWith, placeNormal, insertNormal, placeEmpty, insertEmpty, placeManual, insertManual}
 use Rattle.rules.specs.Remove.{freed, noteOf, removeSpot, remove}
 use Rattle.rules.specs.Calls.{answer, run}
-use Rattle.rules.specs.Bench.{key, countsOf, listing, outcome, Comes, put, added, take, took, ent, line, counts, from1, from3, from4, bench, scriptA, answersA, runA, runB, runC, runD, runE, runF, runG, runH, runI, runJ, runs}
+use Rattle.rules.specs.Bench.{key, countsOf, listing, outcome, Starred, put, added, take, took, ent, line, counts, from1, from3, from4, bench, scriptA, answersA, runA, runB, runC, runD, runE, runF, runG, runH, runI, runJ}
 
-pub starred : All Comes runs
+pub starred : Starred
 unfolding decLe decLt ℕ-discrete choose first last inorder size plug before after neighbour replaceAt placeRound byPlace insertClimb insertAt takeRound byTake removeClimb settle endmost vacateEnd vacate removeAt keyRound byKey find findSlot besideOf freshFrom fresh ofGeneration spotOf addWith placeNormal insertNormal placeEmpty insertEmpty placeManual insertManual freed noteOf removeSpot remove answer run key countsOf listing outcome put added take took ent line counts from1 from3 from4 bench scriptA answersA runA runB runC runD runE runF runG runH runI runJ
-starred = (refl, (refl, (refl, (refl, (refl, (refl, (refl, (refl, (refl, (refl, tt))))))))))
+starred = record { queue = (refl, (refl, (refl, (refl, (refl, (refl, (refl, (refl, (refl, (refl, tt)))))))))) }

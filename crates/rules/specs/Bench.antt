@@ -4,6 +4,7 @@ use mathlib.Core.Path.{_≡_}
 use mathlib.Core.List.{List, [], _∷_, _++_}
 use Prim.Native.Nat.{ℕ, suc, _+_, _-_, _^_}
 use lib.ListN.{length}
+use Rattle.wavl.specs.Lists.{All}
 use Rattle.wavl.specs.Entry.{Entry}
 use Rattle.wavl.specs.Tree.{Tree, tip, fork, leaf, size}
 use Rattle.rules.specs.Queue.{Handle, handle, Queue, fresh}
@@ -186,3 +187,8 @@ runJ = bench (manual (handle 0 1) less (key 10) 1 ∷ onEmpty (key 10) 2 ∷ [])
 -- the whole table
 abbrev pub runs : List Run
 runs = runA ∷ runB ∷ runC ∷ runD ∷ runE ∷ runF ∷ runG ∷ runH ∷ runI ∷ runJ ∷ []
+
+-- Document 01 asks for "a single table under a single theorem". Run K speaks of due times (specs/Due) and of no queue: it
+-- joins this record as a second part, `times`, when those modules stand beside this one.
+pub record Starred : Type 0 where
+  pub queue : All Comes runs
