@@ -8,10 +8,11 @@ use Rattle.wavl.specs.Entry.{Entry, Before, Rising}
 use Rattle.wavl.specs.Tree.{Side, left, right, Tree, tip, fork, inorder}
 use Rattle.wavl.specs.Way.{Way, Place, place, plug, before, after, neighbour}
 use Rattle.wavl.specs.Search.{search, besideOf}
+use Rattle.wavl.proofs.Lists.{all-map}
 use Rattle.wavl.proofs.Order.{choose-cases}
-use Rattle.wavl.proofs.Rising.{node-around}
+use Rattle.wavl.proofs.Rising.{less-before, node-around}
 use Rattle.wavl.proofs.Located.{beside-whole}
-use Rattle.wavl.proofs.Found.{Searched, search-right}
+use Rattle.wavl.proofs.Found.{Missed, Searched, search-right}
 use Rattle.rules.specs.Queue.{Handle, Queue, entries}
 use Rattle.rules.specs.Answers.{Inserted, notInserted, failedOrdRequirement}
 use Rattle.rules.specs.Place.{Spot, nowhere, spot, spotOf}
@@ -27,9 +28,15 @@ module _ (key value : ℕ) (q : Queue) (s : Sound q) where
   refused n = record { does = refl; sound = s }
 
   -- Normal
+  missed-fits : (p : Way) → Missed key (q .tree) p → FitsAt key p
+  missed-fits p f = record {
+    above = all-map _ _ (λ y l. less-before y (keyed key) l) (before p) (f .smaller);
+    below = all-map _ _ (λ y l. less-before (keyed key) y l) (after p) (f .greater);
+  }
+
   place-normal : (w : Place) → Searched key (q .tree) w → Inserts key value q (placeNormal w key value q)
   unfolding placeNormal
-  place-normal (place tip p) f = add-at key value q s p (f .back) (record { above = f .smaller; below = f .greater })
+  place-normal (place tip p) f = add-at key value q s p (f .back) (missed-fits p f)
   place-normal (place (fork a x r b) p) f = swap-at key value q s a x r b p (f .back) (f .key-is)
 
   pub normal-both : Inserts key value q (insertNormal key value q)

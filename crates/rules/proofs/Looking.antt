@@ -19,7 +19,7 @@ use Rattle.wavl.proofs.Rising.{node-around}
 use Rattle.wavl.proofs.Size.{size-length}
 use Rattle.wavl.proofs.Found.{Searched, search-right, looked-bound, looked-tight}
 use Rattle.rules.specs.Queue.{Handle, handle, handleOf, Queue, entries, Holds, Has, Names, Live}
-use Rattle.rules.specs.Answers.{Removed, removed, Read, reads, Found, equalAt, beside, noEntry, Stepped, stands, ends}
+use Rattle.rules.specs.Answers.{noNote, generationOverflow, Removed, removed, Read, reads, Found, equalAt, beside, noEntry, Stepped, stands, ends}
 use Rattle.rules.specs.Place.{Spot, nowhere, spot, spotOf}
 use Rattle.rules.specs.Remove.{freed, noteOf, freeAfter, removeSpot, remove}
 use Rattle.rules.specs.Look.{readSpot, read, foundIn, searchFor, standsAt, first, last, stepSpot, stepTo, next, prev}
@@ -51,10 +51,29 @@ module _ (h : Handle) (q : Queue) (s : Sound q) (t : Target h q) where
   remove-at nowhere n = absurd (n (target-live h q s t))
   remove-at (spot a x r b p) n = let u = same-target (target-at h q a x r b p n) in rw (u .1)
 
-  -- removal of a live handle answers its entry's key and value, noted exactly at the top generation
+  -- removal of a live handle answers its entry's key and value
   pub remove-is : remove h q .0 ≡ removed (t .target .key) (t .target .value) (noteOf (decLt (t .target .generation) (q .top)))
   unfolding remove
   remove-is = remove-at (spotOf h q) (sound-spot h s)
+
+  note-yes : {g top : ℕ} (d : Dec (g < top)) → g < top → noteOf d ≡ noNote
+  unfolding noteOf
+  note-yes (yes l) m = refl
+  note-yes (no l) m = absurd (l m)
+
+  note-no : {g top : ℕ} (d : Dec (g < top)) → ¬ (g < top) → noteOf d ≡ generationOverflow
+  unfolding noteOf
+  note-no (yes l) m = absurd (m l)
+  note-no (no l) m = refl
+
+  -- "At the top generation the entry is still removed and returned, with the note GenerationOverflow"; below it without
+  pub remove-noted : h .generation ≡ q .top → remove h q .0 ≡ removed (t .target .key) (t .target .value) generationOverflow
+  remove-noted e =
+      let n : ¬ (t .target .generation < q .top) = λ l. let g = t .named .1 in absurd (omega arith) in
+      remove-is ∙ ap (removed (t .target .key) (t .target .value)) (note-no (decLt (t .target .generation) (q .top)) n)
+
+  pub remove-plain : h .generation < q .top → remove h q .0 ≡ removed (t .target .key) (t .target .value) noNote
+  remove-plain l = remove-is ∙ ap (removed (t .target .key) (t .target .value)) (note-yes (decLt (t .target .generation) (q .top)) (rw (t .named .1) l))
 
   freed-yes : (x : Entry) (d : Dec (x .generation < q .top)) → x .generation < q .top → freed d (x .slot) (q .free) ≡ handle (x .slot) (suc (x .generation)) ∷ q .free
   unfolding freed

@@ -3,7 +3,6 @@
 use mathlib.Core.Path.{_≡_}
 use mathlib.Core.List.{List, [], _∷_}
 use Prim.Native.Nat.{ℕ, zero, suc}
-use native.Mathlib.Decide.{ℕ-discrete}
 use Rattle.wavl.specs.Lists.{In}
 use Rattle.wavl.specs.Entry.{Entry}
 use Rattle.wavl.specs.Tree.{Tree, tip, inorder}
@@ -59,10 +58,8 @@ Names h x = (x .slot ≡ h .slot) × (x .generation ≡ h .generation)
 abbrev pub Live : Handle → Queue → Type 0
 Live h q = (x : Entry) × Holds q x × Names h x
 
+-- two tests, both to hold
 abbrev pub decBoth : {A B : Type 0} → Dec A → Dec B → Dec (A × B)
 decBoth (yes a) (yes b) = yes (a, b)
 decBoth (yes a) (no g) = no (λ c. g (c .1))
 decBoth (no f) b = no (λ c. f (c .0))
-
-abbrev pub decNames : (h : Handle) (x : Entry) → Dec (Names h x)
-decNames h x = decBoth (ℕ-discrete (x .slot) (h .slot)) (ℕ-discrete (x .generation) (h .generation))
