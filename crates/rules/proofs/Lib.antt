@@ -11,3 +11,4 @@ pub mod Unchanged
 pub mod Handles
 pub mod Looking
 pub mod History
+pub mod Single

@@ -10,14 +10,14 @@ use lib.ListN.{length}
 use Rattle.wavl.specs.Lists
 use Rattle.wavl.specs.Entry.{Entry}
 use Rattle.wavl.specs.Tree.{Side, left, right, Tree, tip, fork, inorder, size}
-use Rattle.wavl.specs.Way.{step, Way, Place, place, plug, before, after, neighbour}
-use Rattle.wavl.specs.Search.{search, looked}
+use Rattle.wavl.specs.Way.{step, Place, place, neighbour}
+use Rattle.wavl.specs.Search.{search, path, looked}
 use Rattle.wavl.specs.Search
-use Rattle.wavl.proofs.Lists.{in-middle, last-of}
+use Rattle.wavl.proofs.Lists.{last-of}
 use Rattle.wavl.proofs.Rule.{ranked→ranks}
-use Rattle.wavl.proofs.Rising.{node-around}
 use Rattle.wavl.proofs.Size.{size-length}
-use Rattle.wavl.proofs.Found.{Searched, search-right, looked-bound, looked-tight}
+use Rattle.wavl.proofs.Found.{looked-path, looked-bound, looked-tight}
+use Rattle.wavl.proofs.Reply.{Answers, answer-right}
 use Rattle.rules.specs.Queue.{Handle, handle, handleOf, Queue, entries, Holds, Has, Names, Live}
 use Rattle.rules.specs.Answers.{noNote, generationOverflow, Removed, removed, Read, reads, Found, equalAt, beside, noEntry, Stepped, stands, ends}
 use Rattle.rules.specs.Place.{Spot, nowhere, spot, spotOf}
@@ -31,7 +31,7 @@ use Rattle.rules.proofs.Told.{one-split, target-at, target-live}
 
 -- A handle's target, wherever the chain is split, is the one at its spot.
 module _ (h : Handle) (q : Queue) (s : Sound q) (t : Target h q) where
-  same-target : (u : Target h q) → (t .smaller ≡ u .smaller) × (t .target ≡ u .target) × (t .greater ≡ u .greater)
+  pub same-target : (u : Target h q) → (t .smaller ≡ u .smaller) × (t .target ≡ u .target) × (t .greater ≡ u .greater)
   same-target u =
       one-split (t .smaller) (t .target) (t .greater) (u .smaller) (u .target) (u .greater)
       (rw (t .chain) at (live-once s)) (sym (t .chain) ∙ u .chain) (t .named .0 ∙ sym (u .named .0))
@@ -164,23 +164,18 @@ last-ends q e = rw e
 
 -- Search
 module _ (key : ℕ) (q : Queue) (s : Sound q) where
-  step-in : (d : Side) (x : Entry) (r : ℕ) (t : Tree) (p : Way) → Lists.In x (inorder (plug tip (step d x r t ∷ p)))
-  unfolding plug
-  step-in left x r t p = rw (node-around tip x r t p) (in-middle x (before p ++ inorder tip) (inorder t ++ after p))
-  step-in right x r t p = rw (node-around t x r tip p) (in-middle x (before p ++ inorder t) (inorder tip ++ after p))
-
-  search-told : (w : Place) → Searched key (q .tree) w → SearchAnswers key q (foundIn (Search.answer w))
-  unfolding foundIn Search.answer plug inorder before after
-  search-told (place tip []) f = (refl, f .order)
-  search-told (place tip (step left x r t ∷ p)) f =
-      (λ i. f .absent (i .0) (i .1) (i .2), (x, rw (← (f .back)) (step-in left x r t p), (refl, refl), f .between-nodes .0))
-  search-told (place tip (step right x r t ∷ p)) f =
-      (λ i. f .absent (i .0) (i .1) (i .2), (x, rw (← (f .back)) (step-in right x r t p), (refl, refl), f .between-nodes .0))
-  search-told (place (fork a x r b) p) f = (x, f .present, (refl, refl), f .key-is)
+  search-told : (a : Search.Found) → Answers key (q .tree) a → SearchAnswers key q (foundIn a)
+  unfolding foundIn inorder
+  search-told (Search.equalTo x n) f = (x, f .present, (refl, refl), f .key-is, f .count-is)
+  search-told (Search.nearest x left n) f =
+      (λ i. f .absent (i .0) (i .1) (i .2), (x, f .present, (refl, refl), f .on-side, f .last-looked), f .count-is)
+  search-told (Search.nearest x right n) f =
+      (λ i. f .absent (i .0) (i .1) (i .2), (x, f .present, (refl, refl), f .on-side, f .last-looked), f .count-is)
+  search-told Search.emptyTree f = (refl, ap inorder f)
 
   pub search-answers : SearchAnswers key q (searchFor key q)
   unfolding searchFor
-  search-answers = search-told (search key (q .tree)) (search-right key (q .tree) (s .rising))
+  search-answers = search-told (Search.answer (search key (q .tree))) (answer-right key (q .tree) (s .rising))
 
   -- Equal exactly when an entry has the key
   search-there : (a : Found) → SearchAnswers key q a → Has key q → (h : Handle) × (n : ℕ) × (a ≡ equalAt h n)
@@ -201,7 +196,11 @@ count-is (place tip []) = refl
 count-is (place tip (step d x r t ∷ p)) = refl
 count-is (place (fork a x r b) p) = refl
 
-pub search-count : (key : ℕ) (q : Queue) → countOf (searchFor key q) ≡ looked (search key (q .tree))
+pub search-path : (key : ℕ) (q : Queue) → countOf (searchFor key q) ≡ length (path key (q .tree))
+unfolding searchFor
+search-path key q = count-is (search key (q .tree)) ∙ looked-path key (q .tree)
+
+search-count : (key : ℕ) (q : Queue) → countOf (searchFor key q) ≡ looked (search key (q .tree))
 unfolding searchFor
 search-count key q = count-is (search key (q .tree))
 

@@ -1,32 +1,34 @@
 -- The place that a handle names, and the empty place beside a node: what stands before and after them.
 -- A reader may rely on this: on a queue with distinct slots spotOf finds a handle's entry exactly when the handle is live.
 use mathlib.Core.Path.{_≡_, refl, sym, ap, _∙_}
-use mathlib.Core.Logic.{_⊎_, inl, inr}
+use mathlib.Core.Logic.{inl, inr}
 use mathlib.Core.List.{List, [], _∷_, _++_}
 use Prim.Native.Nat.{ℕ}
 use native.Mathlib.Decide.{ℕ-discrete}
-use Rattle.wavl.specs.Lists.{All, In, Differ, Once, choose}
+use Rattle.wavl.specs.Lists.{In, Once, choose}
 use Rattle.wavl.specs.Entry.{Entry, slots}
 use Rattle.wavl.specs.Tree.{Side, left, right, Tree, tip, fork, inorder}
 use Rattle.wavl.specs.Way.{Way, Place, place, plug, before, after}
 use Rattle.wavl.specs.Search.{locate, besideOf}
-use Rattle.wavl.proofs.Lists.{all-in, in-slots, slots-append}
+use Rattle.wavl.proofs.Lists.{all-in, in-middle, in-slots}
 use Rattle.wavl.proofs.Rising.{node-around}
 use Rattle.wavl.proofs.Located.{Spot as SlotAt, locate-right, beside-left, beside-right}
 use Rattle.rules.specs.Queue.{Handle, handleOf, Queue, entries, Names, Live}
 use Rattle.rules.specs.Place.{Spot, nowhere, spot, ofGeneration, spotOf}
-use Rattle.rules.proofs.Lists.{in-drop, once-differ, slots-put}
 
 -- with distinct slots, two entries with one slot are one
-pub same-slot : (a : List Entry) (x : Entry) (b : List Entry) → Once (slots (a ++ (x ∷ b))) → (y : Entry) → In y (a ++ (x ∷ b)) → y .slot ≡ x .slot → y ≡ x
-same-slot a x b once y i e = go (in-drop y a x b i)
-  where
-    differs : All (Differ (x .slot)) (slots a ++ slots b)
-    differs = once-differ (slots a) (x .slot) (slots b) (rw (slots-put a x b) at once)
+pub slot-unique : (l : List Entry) → Once (slots l) → (x y : Entry) → In x l → In y l → x .slot ≡ y .slot → x ≡ y
+unfolding slots
+slot-unique [] o x y i j e = absurd i
+slot-unique (z ∷ l) o x y (inl i) (inl j) e = i ∙ sym j
+slot-unique (z ∷ l) o x y (inl i) (inr j) e =
+    absurd (all-in _ (slots l) (o .0) (y .slot) (in-slots y l j) (ap (λ (w : Entry). w .slot) (sym i) ∙ e))
+slot-unique (z ∷ l) o x y (inr i) (inl j) e =
+    absurd (all-in _ (slots l) (o .0) (x .slot) (in-slots x l i) (ap (λ (w : Entry). w .slot) (sym j) ∙ sym e))
+slot-unique (z ∷ l) o x y (inr i) (inr j) e = slot-unique l (o .1) x y i j e
 
-    go : (y ≡ x) ⊎ In y (a ++ b) → y ≡ x
-    go (inl f) = f
-    go (inr j) = absurd (all-in _ (slots a ++ slots b) differs (y .slot) (rw (slots-append a b) at (in-slots y (a ++ b) j)) (sym e))
+pub same-slot : (a : List Entry) (x : Entry) (b : List Entry) → Once (slots (a ++ (x ∷ b))) → (y : Entry) → In y (a ++ (x ∷ b)) → y .slot ≡ x .slot → y ≡ x
+same-slot a x b once y i e = slot-unique (a ++ (x ∷ b)) once y x i (in-middle x a b) e
 
 -- where the handle's entry stands, or that it names none
 abbrev pub SpotIs : Handle → Queue → Spot → Type 0

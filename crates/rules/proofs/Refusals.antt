@@ -15,8 +15,12 @@ use Rattle.rules.specs.Sound.{Sound}
 use Rattle.rules.specs.Table.{NoSlot, NextFree, NormalAnswers, NoEntries, EmptyAnswers, ManualFits, Adding, ManualAnswers, RemoveAnswers, ReadAnswers, StepAnswers}
 use Rattle.rules.proofs.Told.{normal-answers, empty-answers, manual-answers, remove-answers, read-answers, step-answers, target-live}
 
-no-next : (q : Queue) {h : Handle} → NextFree q h → ¬ NoSlot q
+pub no-next : (q : Queue) {h : Handle} → NextFree q h → ¬ NoSlot q
 no-next q f n = cons≢nil (sym (f .1) ∙ n)
+
+-- Equal needs no new entry
+pub equal-adds-not : (v : Where) → v ≡ Where.equal → ¬ Adding v
+equal-adds-not v e k = subst (λ (u : Where). Adding u) e k
 
 -- Normal: "1: a new entry is needed and no slot is free"
 module _ (key value : ℕ) (q : Queue) (s : Sound q) where
@@ -97,9 +101,6 @@ module _ (h : Handle) (w : Where) (key value : ℕ) (q : Queue) (s : Sound q) wh
   manual-two (replacing g v) f n = absurd (n (f .0))
   manual-two (notInserted m) (inl f) n = ap notInserted (f .0)
   manual-two (notInserted m) (inr f) n = absurd (n (f .1))
-
-  equal-adds-not : (v : Where) → v ≡ Where.equal → ¬ Adding v
-  equal-adds-not v e k = subst (λ (u : Where). Adding u) e k
 
   manual-one : (a : Inserted) → ManualAnswers h w key q a → ManualFits h w key q × Adding w × NoSlot q → a ≡ notInserted notWithinCapacity
   manual-one (new g) f n = absurd (no-next q (f .2) (n .2))

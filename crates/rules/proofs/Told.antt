@@ -4,8 +4,8 @@ use mathlib.Core.Path.{_≡_, refl, sym, ap, _∙_, subst}
 use mathlib.Core.Logic.{_⊎_, inl, inr}
 use mathlib.Core.List.{List, [], _∷_, _++_, cons≢nil}
 use mathlib.Core.Option.{Option, none, some}
-use Prim.Native.Nat.{ℕ}
-use native.Mathlib.Decide.{ℕ-discrete}
+use Prim.Native.Nat.{ℕ, _<_}
+use native.Mathlib.Decide.{decLt, ℕ-discrete}
 use native.Mathlib.Omega.{arith}
 use Rattle.wavl.specs.Lists.{Once, first, last}
 use Rattle.wavl.specs.Entry.{Entry, slots}
@@ -21,10 +21,10 @@ use Rattle.rules.specs.Queue.{Handle, handleOf, Queue, entries, Holds, H
 use Rattle.rules.specs.Answers.{Inserted, new, replacing, notInserted, failedOrdRequirement, Stepped, stands, ends, notStepped}
 use Rattle.rules.specs.Place.{Spot, nowhere, spot, spotOf}
 use Rattle.rules.specs.Insert.{Where, less, equal, greater, keyed, Between, decBetween, addWith, addAt, swapAt, addBeside, placeNormal, insertNormal, placeEmpty, insertEmpty, placeManual, insertManual}
-use Rattle.rules.specs.Remove.{removeSpot, remove}
+use Rattle.rules.specs.Remove.{noteOf, removeSpot, remove}
 use Rattle.rules.specs.Look.{readSpot, read, standsAt, stepSpot, stepTo}
 use Rattle.rules.specs.Sound.{Sound}
-use Rattle.rules.specs.Table.{NoSlot, NextFree, NormalAnswers, NoEntries, EmptyAnswers, Target, KeyFits, ManualFits, Adding, ManualAnswers, RemoveAnswers, ReadAnswers, Facing, StepAnswers}
+use Rattle.rules.specs.Table.{NoSlot, NextFree, NormalAnswers, NoEntries, EmptyAnswers, Target, KeyFits, ManualFits, Adding, ManualAnswers, NoteFits, RemoveAnswers, ReadAnswers, Facing, StepAnswers}
 use Rattle.rules.proofs.Places.{SpotIs, same-slot}
 use Rattle.rules.proofs.Removing.{live-once, sound-spot}
 
@@ -163,10 +163,16 @@ faces-right a x (y ∷ b) = (y, b, refl, refl)
 
 -- Removal, reading and stepping
 module _ (h : Handle) (q : Queue) (s : Sound q) where
+  note-fits : (x : Entry) (d : Dec (x .generation < q .top)) → NoteFits (noteOf d) x q
+  unfolding noteOf
+  note-fits x (yes l) = l
+  note-fits x (no l) = l
+
   remove-spot : (c : Spot) → SpotIs h q c → RemoveAnswers h q (removeSpot c q .0)
   unfolding removeSpot
   remove-spot nowhere n = (refl, n)
-  remove-spot (spot a x r b p) n = (x, target-holds h q s (target-at h q a x r b p n), n .0, refl, refl)
+  remove-spot (spot a x r b p) n =
+      (x, target-holds h q s (target-at h q a x r b p n), n .0, refl, refl, note-fits x (decLt (x .generation) (q .top)))
 
   pub remove-answers : RemoveAnswers h q (remove h q .0)
   unfolding remove

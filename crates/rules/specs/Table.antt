@@ -1,14 +1,18 @@
 -- Document 01's table "When the queue says no", and beside it each yes: for each call, which facts of the queue before it
--- belong to which answer. A reader may rely on this: no two answers of a call have facts that can hold together.
+-- belong to which answer. A reader may rely on this: on a sound queue no two answers of a call have facts that can hold
+-- together (proofs/Single), so that these facts leave no second answer.
 use mathlib.Core.Path.{_≡_}
 use mathlib.Core.Logic.{_⊎_}
 use mathlib.Core.List.{List, [], _∷_, _++_}
+use mathlib.Core.Option.{some}
 use Prim.Native.Nat.{ℕ, _<_}
+use lib.ListN.{length}
 use Rattle.wavl.specs.Lists.{first, last}
 use Rattle.wavl.specs.Entry.{Entry}
 use Rattle.wavl.specs.Tree.{Side, left, right}
+use Rattle.wavl.specs.Search.{path}
 use Rattle.rules.specs.Queue.{Handle, handleOf, Queue, entries, Holds, Has, Names, Live}
-use Rattle.rules.specs.Answers.{Inserted, new, replacing, notInserted, Removed, removed, notRemoved, Read, reads, notRead, Stepped, stands, ends, notStepped, Found, equalAt, beside, noEntry, notWithinCapacity, failedOrdRequirement, invalidPtr}
+use Rattle.rules.specs.Answers.{Inserted, new, replacing, notInserted, Note, noNote, generationOverflow, Removed, removed, notRemoved, Read, reads, notRead, Stepped, stands, ends, notStepped, Found, equalAt, beside, noEntry, notWithinCapacity, failedOrdRequirement, invalidPtr}
 use Rattle.rules.specs.Insert.{Where, less, equal, greater, keyed, Between}
 
 -- "no slot is free"; or h is the next to be handed out
@@ -66,8 +70,13 @@ ManualAnswers h w key q (notInserted n) =
     ((n ≡ failedOrdRequirement) × (¬ ManualFits h w key q)) ⊎ ((n ≡ notWithinCapacity) × ManualFits h w key q × Adding w × NoSlot q)
 
 -- "removal, reading or stepping with a handle that names no live entry": 3, and never otherwise
+-- "At the top generation the entry is still removed and returned, with the note GenerationOverflow"
+abbrev pub NoteFits : Note → Entry → Queue → Type 0
+NoteFits noNote x q = x .generation < q .top
+NoteFits generationOverflow x q = ¬ (x .generation < q .top)
+
 abbrev pub RemoveAnswers : Handle → Queue → Removed → Type 0
-RemoveAnswers h q (removed k v note) = (x : Entry) × Holds q x × Names h x × (x .key ≡ k) × (x .value ≡ v)
+RemoveAnswers h q (removed k v note) = (x : Entry) × Holds q x × Names h x × (x .key ≡ k) × (x .value ≡ v) × NoteFits note x q
 RemoveAnswers h q (notRemoved n) = (n ≡ invalidPtr) × (¬ Live h q)
 
 abbrev pub ReadAnswers : Handle → Queue → Read → Type 0
@@ -88,14 +97,16 @@ StepAnswers d h q (stands g) = (t : Target h q) × Facing d (t .smaller) (t .tar
 StepAnswers d h q ends = (t : Target h q) × Facing d (t .smaller) (t .target) (t .greater) ends
 StepAnswers d h q (notStepped n) = (n ≡ invalidPtr) × (¬ Live h q)
 
--- Search as a call: the equal entry, or the last node with the side of it on which the key would stand, or Empty; no refusal
+-- Search as a call: the equal entry, or the last node of the path with the side of it on which the key would stand, or Empty; the
+-- count is "the length of that path in the stored tree; 0 when empty". No refusal.
 abbrev pub KeyOn : Side → ℕ → Entry → Type 0
 KeyOn left key x = key < x .key
 KeyOn right key x = x .key < key
 
 abbrev pub SearchAnswers : ℕ → Queue → Found → Type 0
-SearchAnswers key q (equalAt h n) = (x : Entry) × Holds q x × Names h x × (x .key ≡ key)
-SearchAnswers key q (beside h d n) = (¬ Has key q) × ((x : Entry) × Holds q x × Names h x × KeyOn d key x)
+SearchAnswers key q (equalAt h n) = (x : Entry) × Holds q x × Names h x × (x .key ≡ key) × (n ≡ length (path key (q .tree)))
+SearchAnswers key q (beside h d n) =
+    (¬ Has key q) × ((x : Entry) × Holds q x × Names h x × KeyOn d key x × (last (path key (q .tree)) ≡ some x)) × (n ≡ length (path key (q .tree)))
 SearchAnswers key q (noEntry n) = (n ≡ 0) × NoEntries q
 
 -- the count that each answer carries

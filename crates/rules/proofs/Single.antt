@@ -1,0 +1,185 @@
+-- No second answer: two answers of a call for which specs/Table's facts hold on one sound queue are the same answer.
+-- A reader may rely on these with the theorems CALL-answers of proofs/Told and proofs/Looking: the facts pin the answer down.
+use mathlib.Core.Path.{_≡_, refl, sym, ap, _∙_, subst}
+use mathlib.Core.Logic.{_⊎_, inl, inr}
+use mathlib.Core.List.{List, [], _∷_, _++_, head-eq-of-cons-eq}
+use mathlib.Core.Option.{Option, some, Option·some-injective}
+use Prim.Native.Nat.{ℕ, _<_}
+use native.Mathlib.Omega.{arith}
+use lib.ListN.{length}
+use Rattle.wavl.specs.Lists.{first, last}
+use Rattle.wavl.specs.Entry.{Entry}
+use Rattle.wavl.specs.Tree.{Side, left, right}
+use Rattle.wavl.proofs.Lists.{last-of}
+use Rattle.wavl.proofs.Strict.{rising-unique}
+use Rattle.rules.specs.Queue.{Handle, handleOf, Queue, entries, Holds, Has, Names, Live}
+use Rattle.rules.specs.Answers.{Inserted, new, replacing, notInserted, Note, noNote, generationOverflow, Removed, removed, notRemoved, Read, reads, notRead, Found, equalAt, beside, noEntry, Stepped, stands, ends, notStepped}
+use Rattle.rules.specs.Insert.{Where}
+use Rattle.rules.specs.Look.{standsAt}
+use Rattle.rules.specs.Sound.{Sound}
+use Rattle.rules.specs.Table.{NoSlot, NextFree, NormalAnswers, NoEntries, EmptyAnswers, Target, ManualFits, Adding, ManualAnswers, NoteFits, RemoveAnswers, ReadAnswers, Facing, StepAnswers, KeyOn, SearchAnswers}
+use Rattle.rules.proofs.Places.{slot-unique}
+use Rattle.rules.proofs.Removing.{live-once}
+use Rattle.rules.proofs.Told.{names-handle, target-live}
+use Rattle.rules.proofs.Refusals.{no-next, equal-adds-not}
+use Rattle.rules.proofs.Looking.{same-target}
+
+next-unique : (q : Queue) {g h : Handle} → NextFree q g → NextFree q h → g ≡ h
+next-unique q f k = head-eq-of-cons-eq (sym (f .1) ∙ k .1)
+
+-- one handle names one entry, and so one key and one value
+module _ (h : Handle) (q : Queue) (s : Sound q) where
+  pub one-entry : (x y : Entry) → Holds q x → Holds q y → Names h x → Names h y → x ≡ y
+  one-entry x y i j m n = slot-unique (entries q) (live-once s) x y i j (m .0 ∙ sym (n .0))
+
+-- Normal
+module _ (key : ℕ) (q : Queue) (s : Sound q) where
+  pub normal-single : (a b : Inserted) → NormalAnswers key q a → NormalAnswers key q b → a ≡ b
+  normal-single (new g) (new h) f k = ap new (next-unique q (f .1) (k .1))
+  normal-single (new g) (replacing h v) f k = absurd (f .0 (k .0, k .1, k .3))
+  normal-single (new g) (notInserted n) f k = absurd (no-next q (f .1) (k .2))
+  normal-single (replacing g u) (new h) f k = absurd (k .0 (f .0, f .1, f .3))
+  normal-single (replacing g u) (replacing h v) f k =
+      let e : f .0 ≡ k .0 = rising-unique (entries q) (s .rising) (f .0) (k .0) (f .1) (k .1) (f .3 ∙ sym (k .3)) in
+      let i : g ≡ h = sym (names-handle g (f .0) (f .2)) ∙ ap handleOf e ∙ names-handle h (k .0) (k .2) in
+      let j : u ≡ v = sym (f .4) ∙ ap (λ (x : Entry). x .value) e ∙ k .4 in
+      cc
+  normal-single (replacing g u) (notInserted n) f k = absurd (k .1 (f .0, f .1, f .3))
+  normal-single (notInserted m) (new h) f k = absurd (no-next q (k .1) (f .2))
+  normal-single (notInserted m) (replacing h v) f k = absurd (f .1 (k .0, k .1, k .3))
+  normal-single (notInserted m) (notInserted n) f k = ap notInserted (f .0 ∙ sym (k .0))
+
+-- Empty, on any queue
+module _ (q : Queue) where
+  pub empty-single : (a b : Inserted) → EmptyAnswers q a → EmptyAnswers q b → a ≡ b
+  empty-single (new g) (new h) f k = ap new (next-unique q (f .1) (k .1))
+  empty-single (new g) (replacing h v) f k = absurd k
+  empty-single (new g) (notInserted n) f (inl k) = absurd (k .1 (f .0))
+  empty-single (new g) (notInserted n) f (inr k) = absurd (no-next q (f .1) (k .2))
+  empty-single (replacing g u) b f k = absurd f
+  empty-single (notInserted m) (new h) (inl f) k = absurd (f .1 (k .0))
+  empty-single (notInserted m) (new h) (inr f) k = absurd (no-next q (k .1) (f .2))
+  empty-single (notInserted m) (replacing h v) f k = absurd k
+  empty-single (notInserted m) (notInserted n) (inl f) (inl k) = ap notInserted (f .0 ∙ sym (k .0))
+  empty-single (notInserted m) (notInserted n) (inl f) (inr k) = absurd (f .1 (k .1))
+  empty-single (notInserted m) (notInserted n) (inr f) (inl k) = absurd (k .1 (f .1))
+  empty-single (notInserted m) (notInserted n) (inr f) (inr k) = ap notInserted (f .0 ∙ sym (k .0))
+
+-- Manual
+module _ (h : Handle) (w : Where) (key : ℕ) (q : Queue) (s : Sound q) where
+  pub manual-single : (a b : Inserted) → ManualAnswers h w key q a → ManualAnswers h w key q b → a ≡ b
+  manual-single (new g) (new i) f k = ap new (next-unique q (f .2) (k .2))
+  manual-single (new g) (replacing i v) f k = absurd (equal-adds-not w (k .1) (f .1))
+  manual-single (new g) (notInserted n) f (inl k) = absurd (k .1 (f .0))
+  manual-single (new g) (notInserted n) f (inr k) = absurd (no-next q (f .2) (k .3))
+  manual-single (replacing g u) (new i) f k = absurd (equal-adds-not w (f .1) (k .1))
+  manual-single (replacing g u) (replacing i v) f k =
+      let x = f .3 in
+      let y = k .3 in
+      let e : x .0 ≡ y .0 = one-entry h q s (x .0) (y .0) (x .1) (y .1) (x .2) (y .2) in
+      let c : g ≡ i = f .2 ∙ sym (k .2) in
+      let d : u ≡ v = sym (x .3) ∙ ap (λ (z : Entry). z .value) e ∙ y .3 in
+      ap (λ l. replacing l u) c ∙ ap (replacing i) d
+  manual-single (replacing g u) (notInserted n) f (inl k) = absurd (k .1 (f .0))
+  manual-single (replacing g u) (notInserted n) f (inr k) = absurd (equal-adds-not w (f .1) (k .2))
+  manual-single (notInserted m) (new i) (inl f) k = absurd (f .1 (k .0))
+  manual-single (notInserted m) (new i) (inr f) k = absurd (no-next q (k .2) (f .3))
+  manual-single (notInserted m) (replacing i v) (inl f) k = absurd (f .1 (k .0))
+  manual-single (notInserted m) (replacing i v) (inr f) k = absurd (equal-adds-not w (k .1) (f .2))
+  manual-single (notInserted m) (notInserted n) (inl f) (inl k) = ap notInserted (f .0 ∙ sym (k .0))
+  manual-single (notInserted m) (notInserted n) (inl f) (inr k) = absurd (f .1 (k .1))
+  manual-single (notInserted m) (notInserted n) (inr f) (inl k) = absurd (k .1 (f .1))
+  manual-single (notInserted m) (notInserted n) (inr f) (inr k) = ap notInserted (f .0 ∙ sym (k .0))
+
+-- Removal, reading and stepping
+module _ (h : Handle) (q : Queue) (s : Sound q) where
+  one-note : (m n : Note) (x : Entry) → NoteFits m x q → NoteFits n x q → m ≡ n
+  one-note noNote noNote x f k = refl
+  one-note noNote generationOverflow x f k = absurd (k f)
+  one-note generationOverflow noNote x f k = absurd (f k)
+  one-note generationOverflow generationOverflow x f k = refl
+
+  pub remove-single : (a b : Removed) → RemoveAnswers h q a → RemoveAnswers h q b → a ≡ b
+  remove-single (removed k u m) (removed l v n) f g =
+      let e : f .0 ≡ g .0 = one-entry h q s (f .0) (g .0) (f .1) (g .1) (f .2) (g .2) in
+      let c : k ≡ l = sym (f .3) ∙ ap (λ (z : Entry). z .key) e ∙ g .3 in
+      let d : u ≡ v = sym (f .4) ∙ ap (λ (z : Entry). z .value) e ∙ g .4 in
+      let o : m ≡ n = one-note m n (g .0) (subst (λ (z : Entry). NoteFits m z q) e (f .5)) (g .5) in
+      ap (λ z. removed z u m) c ∙ ap (λ z. removed l z m) d ∙ ap (removed l v) o
+  remove-single (removed k u m) (notRemoved n) f g = absurd (g .1 (f .0, f .1, f .2))
+  remove-single (notRemoved m) (removed l v n) f g = absurd (f .1 (g .0, g .1, g .2))
+  remove-single (notRemoved m) (notRemoved n) f g = ap notRemoved (f .0 ∙ sym (g .0))
+
+  pub read-single : (a b : Read) → ReadAnswers h q a → ReadAnswers h q b → a ≡ b
+  read-single (reads k u) (reads l v) f g =
+      let e : f .0 ≡ g .0 = one-entry h q s (f .0) (g .0) (f .1) (g .1) (f .2) (g .2) in
+      let c : k ≡ l = sym (f .3) ∙ ap (λ (z : Entry). z .key) e ∙ g .3 in
+      let d : u ≡ v = sym (f .4) ∙ ap (λ (z : Entry). z .value) e ∙ g .4 in
+      ap (λ z. reads z u) c ∙ ap (reads l) d
+  read-single (reads k u) (notRead n) f g = absurd (g .1 (f .0, f .1, f .2))
+  read-single (notRead m) (reads l v) f g = absurd (f .1 (g .0, g .1, g .2))
+  read-single (notRead m) (notRead n) f g = ap notRead (f .0 ∙ sym (g .0))
+
+  -- what faces an entry is the end of the chain on that side of it
+  faced-left : (a : List Entry) (x : Entry) (b : List Entry) (o : Stepped) → Facing left a x b o → o ≡ standsAt (last a)
+  unfolding standsAt last
+  faced-left a x b (stands g) f = ap stands (f .3) ∙ ap standsAt (sym (last-of (f .0) (f .1))) ∙ ap (λ l. standsAt (last l)) (sym (f .2))
+  faced-left a x b ends f = ap (λ l. standsAt (last l)) (sym f)
+  faced-left a x b (notStepped n) f = absurd f
+
+  faced-right : (a : List Entry) (x : Entry) (b : List Entry) (o : Stepped) → Facing right a x b o → o ≡ standsAt (first b)
+  unfolding standsAt first
+  faced-right a x b (stands g) f = ap stands (f .3) ∙ ap (λ l. standsAt (first l)) (sym (f .2))
+  faced-right a x b ends f = ap (λ l. standsAt (first l)) (sym f)
+  faced-right a x b (notStepped n) f = absurd f
+
+  both-face : (d : Side) (t u : Target h q) (a b : Stepped) → Facing d (t .smaller) (t .target) (t .greater) a
+      → Facing d (u .smaller) (u .target) (u .greater) b → a ≡ b
+  both-face left t u a b f g =
+      faced-left (t .smaller) (t .target) (t .greater) a f ∙ ap (λ l. standsAt (last l)) (same-target h q s t u .0)
+      ∙ sym (faced-left (u .smaller) (u .target) (u .greater) b g)
+  both-face right t u a b f g =
+      faced-right (t .smaller) (t .target) (t .greater) a f ∙ ap (λ l. standsAt (first l)) (same-target h q s t u .2)
+      ∙ sym (faced-right (u .smaller) (u .target) (u .greater) b g)
+
+  pub step-single : (d : Side) (a b : Stepped) → StepAnswers d h q a → StepAnswers d h q b → a ≡ b
+  step-single d (stands g) (stands i) f k = both-face d (f .0) (k .0) (stands g) (stands i) (f .1) (k .1)
+  step-single d (stands g) ends f k = both-face d (f .0) (k .0) (stands g) ends (f .1) (k .1)
+  step-single d (stands g) (notStepped n) f k = absurd (k .1 (target-live h q s (f .0)))
+  step-single d ends (stands i) f k = both-face d (f .0) (k .0) ends (stands i) (f .1) (k .1)
+  step-single d ends ends f k = refl
+  step-single d ends (notStepped n) f k = absurd (k .1 (target-live h q s (f .0)))
+  step-single d (notStepped m) (stands i) f k = absurd (f .1 (target-live h q s (k .0)))
+  step-single d (notStepped m) ends f k = absurd (f .1 (target-live h q s (k .0)))
+  step-single d (notStepped m) (notStepped n) f k = ap notStepped (f .0 ∙ sym (k .0))
+
+-- Search
+module _ (key : ℕ) (q : Queue) (s : Sound q) where
+  one-side : (c d : Side) (x : Entry) → KeyOn c key x → KeyOn d key x → c ≡ d
+  one-side left left x f g = refl
+  one-side left right x f g = absurd (omega arith)
+  one-side right left x f g = absurd (omega arith)
+  one-side right right x f g = refl
+
+  no-entry : NoEntries q → (x : Entry) → ¬ Holds q x
+  no-entry n x i = rw n at i
+
+  pub search-single : (a b : Found) → SearchAnswers key q a → SearchAnswers key q b → a ≡ b
+  search-single (equalAt g m) (equalAt h n) f k =
+      let e : f .0 ≡ k .0 = rising-unique (entries q) (s .rising) (f .0) (k .0) (f .1) (k .1) (f .3 ∙ sym (k .3)) in
+      let i : g ≡ h = sym (names-handle g (f .0) (f .2)) ∙ ap handleOf e ∙ names-handle h (k .0) (k .2) in
+      ap (λ l. equalAt l m) i ∙ ap (equalAt h) (f .4 ∙ sym (k .4))
+  search-single (equalAt g m) (beside h d n) f k = absurd (k .0 (f .0, f .1, f .3))
+  search-single (equalAt g m) (noEntry n) f k = absurd (no-entry (k .1) (f .0) (f .1))
+  search-single (beside g c m) (equalAt h n) f k = absurd (f .0 (k .0, k .1, k .3))
+  search-single (beside g c m) (beside h d n) f k =
+      let x = f .1 in
+      let y = k .1 in
+      let e : x .0 ≡ y .0 = Option·some-injective (x .0) (y .0) (sym (x .4) ∙ y .4) in
+      let i : g ≡ h = sym (names-handle g (x .0) (x .2)) ∙ ap handleOf e ∙ names-handle h (y .0) (y .2) in
+      let j : c ≡ d = one-side c d (y .0) (subst (λ (z : Entry). KeyOn c key z) e (x .3)) (y .3) in
+      ap (λ l. beside l c m) i ∙ ap (λ l. beside h l m) j ∙ ap (beside h d) (f .2 ∙ sym (k .2))
+  search-single (beside g c m) (noEntry n) f k = absurd (no-entry (k .1) (f .1 .0) (f .1 .1))
+  search-single (noEntry m) (equalAt h n) f k = absurd (no-entry (f .1) (k .0) (k .1))
+  search-single (noEntry m) (beside h d n) f k = absurd (no-entry (f .1) (k .1 .0) (k .1 .1))
+  search-single (noEntry m) (noEntry n) f k = ap noEntry (f .0 ∙ sym (k .0))
