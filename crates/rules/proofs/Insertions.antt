@@ -11,7 +11,7 @@ use Rattle.wavl.specs.Search.{search, besideOf}
 use Rattle.wavl.proofs.Lists.{all-map}
 use Rattle.wavl.proofs.Order.{choose-cases}
 use Rattle.wavl.proofs.Rising.{less-before, node-around}
-use Rattle.wavl.proofs.Located.{beside-whole}
+use Rattle.wavl.proofs.Manual.{beside-whole}
 use Rattle.wavl.proofs.Found.{Missed, Searched, search-right}
 use Rattle.rules.specs.Queue.{Handle, Queue, entries}
 use Rattle.rules.specs.Answers.{Inserted, notInserted, failedOrdRequirement}
@@ -71,7 +71,7 @@ module _ (key value : ℕ) (q : Queue) (s : Sound q) where
   add-beside d a x r b p w =
       let old : entries q ≡ (before p ++ inorder a) ++ (x ∷ (inorder b ++ after p)) = ap inorder (sym w) ∙ node-around a x r b p in
       let c = place (fork a x r b) p in
-      choose-cases (Inserts key value q) (decBetween d (keyed key) x (neighbour d c)) (addAt key value (besideOf d c) q) (notInserted failedOrdRequirement, q)
+      choose-cases (Inserts key value q) _ _ _
       (λ f.
       let two = between-sides d key a x r b p (rw old at (s .rising)) f in
       let i = beside-is d a x r b p in
@@ -83,7 +83,7 @@ module _ (key value : ℕ) (q : Queue) (s : Sound q) where
   place-manual h nowhere n w = refused failedOrdRequirement
   place-manual h (spot a x r b p) n less = add-beside left a x r b p (n .1)
   place-manual h (spot a x r b p) n equal =
-      choose-cases (Inserts key value q) (ℕ-discrete key (x .key)) (swapAt value a x r b p q) (notInserted failedOrdRequirement, q)
+      choose-cases (Inserts key value q) _ _ _
       (λ e. swap-at key value q s a x r b p (n .1) (sym e)) (λ e. refused failedOrdRequirement)
   place-manual h (spot a x r b p) n greater = add-beside right a x r b p (n .1)
 

@@ -4,15 +4,16 @@ use mathlib.Core.Path.{_≡_, refl, sym, ap, _∙_}
 use mathlib.Core.Logic.{inl, inr}
 use mathlib.Core.List.{List, [], _∷_, _++_}
 use Prim.Native.Nat.{ℕ}
-use native.Mathlib.Decide.{ℕ-discrete}
-use Rattle.wavl.specs.Lists.{In, Once, choose}
+use Rattle.wavl.specs.Lists.{In, Once}
 use Rattle.wavl.specs.Entry.{Entry, slots}
 use Rattle.wavl.specs.Tree.{Side, left, right, Tree, tip, fork, inorder}
 use Rattle.wavl.specs.Way.{Way, Place, place, plug, before, after}
 use Rattle.wavl.specs.Search.{locate, besideOf}
 use Rattle.wavl.proofs.Lists.{all-in, in-middle, in-slots}
+use Rattle.wavl.proofs.Order.{choose-cases}
 use Rattle.wavl.proofs.Rising.{node-around}
-use Rattle.wavl.proofs.Located.{Spot as SlotAt, locate-right, beside-left, beside-right}
+use Rattle.wavl.proofs.Located.{Spot as SlotAt, locate-right}
+use Rattle.wavl.proofs.Manual.{beside-left, beside-right}
 use Rattle.rules.specs.Queue.{Handle, handleOf, Queue, entries, Names, Live}
 use Rattle.rules.specs.Place.{Spot, nowhere, spot, ofGeneration, spotOf}
 
@@ -37,18 +38,14 @@ SpotIs h q (spot a x r b p) = Names h x × (plug (fork a x r b) p ≡ q .tree)
 
 module _ (h : Handle) (q : Queue) (once : Once (slots (entries q))) where
   of-place : (w : Place) → SlotAt (h .slot) (q .tree) (entries q) w → SpotIs h q (ofGeneration (h .generation) w)
-  unfolding ofGeneration choose
+  unfolding ofGeneration
   of-place (place tip w) f = λ l. all-in _ (entries q) f (l .0) (l .1) (l .2 .0)
-  of-place (place (fork a x r b) w) f = go (ℕ-discrete (x .generation) (h .generation))
-    where
-      whole : entries q ≡ (before w ++ inorder a) ++ (x ∷ (inorder b ++ after w))
-      whole = ap inorder (sym (f .back)) ∙ node-around a x r b w
-
-      go : (d : Dec (x .generation ≡ h .generation)) → SpotIs h q (choose d (spot a x r b w) nowhere)
-      go (yes e) = ((f .slot-is, e), f .back)
-      go (no e) = λ l.
-          let one = same-slot (before w ++ inorder a) x (inorder b ++ after w) (rw whole at once) (l .0) (rw whole at (l .1)) (l .2 .0 ∙ sym (f .slot-is)) in
-          e (ap (λ (y : Entry). y .generation) (sym one) ∙ l .2 .1)
+  of-place (place (fork a x r b) w) f =
+      let whole : entries q ≡ (before w ++ inorder a) ++ (x ∷ (inorder b ++ after w)) = ap inorder (sym (f .back)) ∙ node-around a x r b w in
+      choose-cases (SpotIs h q) _ _ _ (λ e. ((f .slot-is, e), f .back))
+      (λ e l.
+      let one = same-slot (before w ++ inorder a) x (inorder b ++ after w) (rw whole at once) (l .0) (rw whole at (l .1)) (l .2 .0 ∙ sym (f .slot-is)) in
+      e (ap (λ (y : Entry). y .generation) (sym one) ∙ l .2 .1))
 
   pub spot-is : SpotIs h q (spotOf h q)
   unfolding spotOf
