@@ -37,7 +37,7 @@ only-putHead s cap h v lo hi =
       long = length-putHead s h v;
       slots = λ j g hj hg m n. field-putHead s h v hh cap j g hj hg;
       heads = λ g hg m n. head-other s h v hh g (λ e. off g m n (rw e lo) (rw e hi));
-      rest = rest-putHead s h v hh cap;
+      rest = λ k hk. rest-putHead s h v hh k (omega arith);
     }
   where
     off : (g : ℕ) → (g ≡ FIRST → ⊥) → (g ≡ LAST → ⊥) → FIRST ≤ g → g ≤ LAST → ⊥
