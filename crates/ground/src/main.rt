@@ -1,13 +1,14 @@
 // Lays out stores of several sizes, takes and frees slots to exhaustion and to retirement, and writes what it saw.
 // The stored output beside src/ is what document 01 asks for.
-use libc::STDOUT_FILENO;
-use handle::Refusal;
 use arena::header;
 use arena::header::Header;
 use arena::laying;
 use arena::laying::LaidOut;
 use arena::slots;
-use arena::slots::{Freed, Taken};
+use arena::slots::Freed;
+use arena::slots::Taken;
+use handle::Refusal;
+use libc::STDOUT_FILENO;
 
 fn say(text: &[u8]) {
     io::write_all(STDOUT_FILENO, text);

@@ -1,0 +1,31 @@
+use Rattle.arena.proofs.Answers.{passes-room}
+use Rattle.queue.specs.Looking.{readCall}
+use Rattle.queue.proofs.Answers.{on-passes, on-fails}
+use borrow.Author.Needs.{needs}
+use Rattle.queue.proofs.looking.read_by.Statement.{statement}
+use Rattle.queue.proofs.looking.read_by.Tie as tie
+
+test-requires : tie.Need-test-requires
+test-requires c κs = search needs
+
+enum-known-t : tie.Need-enum-known-t
+enum-known-t c = search needs
+
+read-in-requires : tie.Need-read-in-requires
+unfolding readCall
+read-in-requires c κs = search (on-passes, on-fails, passes-room)
+
+returns : tie.Need-returns
+unfolding readCall
+returns c = search (on-passes, on-fails, passes-room)
+
+enum-told : tie.Need-enum-told
+enum-told c = search needs
+
+returns-2 : tie.Need-returns-2
+unfolding readCall
+returns-2 c = search (on-passes, on-fails, passes-room)
+
+pub read-by-spec : {M : Type 1} → statement M
+read-by-spec =
+    tie.close (tie.spec test-requires enum-known-t read-in-requires returns enum-told returns-2)

@@ -1,0 +1,111 @@
+// Search and reading: they look and change nothing.
+// From the Rust: find_similar_key of ord/find.rs, and reading by pointer.
+ghost use mathlib.Core.Path.{_≡_};
+ghost use Rattle.arena.specs.Words.{Room};
+ghost use Rattle.queue.specs.Looking.{searched, searchCall, handleAt, readEntry, readCall};
+ghost use Prim.Native.Nat.{_<_, _≤_};
+use arena::entries;
+use arena::header;
+use arena::header::Header;
+use arena::keys;
+use arena::words;
+use arena::words::GENERATION;
+use find::Found;
+use handle::Generation;
+use handle::Handle;
+use handle::Key;
+use handle::Refusal;
+use handle::Side;
+use handle::Slot;
+
+// What a search answers: the entry with an equal key, or the last one looked at and the side of it on which the key lies. The
+// number is how many entries were looked at.
+pub enum Searched {
+    Equal(Handle, u64),
+    Beside(Handle, Side, u64),
+    Empty,
+    Refused(Refusal),
+}
+
+// What reading answers: key and value.
+pub enum Read {
+    Entry(Key, u64),
+    Refused(Refusal),
+}
+
+// The handle of the entry in the slot p.
+fn handle_at(s: &[u64], cap: u64, p: u64) -> Handle
+    requires { ⌜ Room (now s) cap ⌝ }
+    requires { ⌜ p < cap ⌝ }
+    ensures { λ r. ⌜ r ≡ handleAt (now (s .entry)) cap p ⌝ }
+{
+    let g = words::field(s, cap, p, GENERATION);
+    Handle::new(Slot(p), Generation(g))
+}
+
+fn search_in(s: &[u64], cap: u64, k: u64) -> Searched
+    requires { ⌜ Room (now s) cap ⌝ }
+    ensures { λ r. ⌜ r ≡ searched (now (s .entry)) cap k ⌝ }
+{
+    let found = find::seek(s, cap, k);
+    match found {
+        Found::Equal(p, n) => {
+            return Searched::Equal(handle_at(s, cap, p), n);
+        }
+        Found::Beside(p, d, n) => {
+            let h = handle_at(s, cap, p);
+            if d == 0 {
+                return Searched::Beside(h, Side::Less, n);
+            }
+            return Searched::Beside(h, Side::Greater, n);
+        }
+        Found::Empty => {
+            return Searched::Empty;
+        }
+        Found::NotSound => {
+            return Searched::Refused(Refusal::NotSound);
+        }
+    }
+}
+
+pub fn search(s: &[u64], key: Key) -> Searched
+    ensures { λ r. ⌜ r ≡ searchCall (now (s .entry)) (key .0) ⌝ }
+{
+    let h = header::test(s);
+    match h {
+        Header::Passes(cap) => {
+            let k = keys::stored_key(key);
+            return search_in(s, cap, k);
+        }
+        Header::Fails => {
+            return Searched::Refused(Refusal::NotSound);
+        }
+    }
+}
+
+fn read_in(s: &[u64], cap: u64, h: Handle) -> Read
+    requires { ⌜ Room (now s) cap ⌝ }
+    ensures { λ r. ⌜ r ≡ readEntry (now (s .entry)) cap h ⌝ }
+{
+    if entries::live(s, cap, h) {
+        let e = entries::read_entry(s, cap, h.slot.0);
+        let key = e.key;
+        let value = e.value;
+        return Read::Entry(key, value);
+    }
+    Read::Refused(Refusal::InvalidPtr)
+}
+
+pub fn read_by(s: &[u64], h: Handle) -> Read
+    ensures { λ r. ⌜ r ≡ readCall (now (s .entry)) h ⌝ }
+{
+    let t = header::test(s);
+    match t {
+        Header::Passes(cap) => {
+            return read_in(s, cap, h);
+        }
+        Header::Fails => {
+            return Read::Refused(Refusal::NotSound);
+        }
+    }
+}
