@@ -12,3 +12,5 @@ pub mod Handles
 pub mod Looking
 pub mod History
 pub mod Single
+pub mod DueSigns
+pub mod DueFloors

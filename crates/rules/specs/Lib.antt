@@ -11,3 +11,5 @@ pub mod Handles
 pub mod Table
 pub mod Calls
 pub mod Bench
+pub mod Due
+pub mod DueFloor
