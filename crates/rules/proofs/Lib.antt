@@ -14,3 +14,7 @@ pub mod History
 pub mod Single
 pub mod DueSigns
 pub mod DueFloors
+pub mod DueRanges
+pub mod DueMoments
+pub mod DueTimes
+pub mod DueRuns

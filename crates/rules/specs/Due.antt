@@ -1,10 +1,11 @@
 -- Due times (document 01, "Due times"): a day, a second and an offset become a key, and a key becomes a time again.
 -- A reader may rely on `toKey` and `fromKey`, which say the answer for all numbers, refusals too; their laws are in
 -- proofs/DueTimes, and document 01's examples in proofs/DueRuns. The key's formula stands here alone. Assumes nothing.
+use mathlib.Core.Path.{_≡_}
 use Prim.Native.Nat.{ℕ}
 use mathlib.Core.Bool.{Bool, true, false, _&&_}
 use lib.IntN.{ℤ, pos, negℤ, _+ℤ_, _-ℤ_, _*ℤ_}
-use lib.Signed.{leZ, _≤ℤ_}
+use lib.Signed.{leZ, _≤ℤ_, _<ℤ_}
 use Rattle.rules.specs.DueFloor.{floorDiv, floorMod}
 
 abbrev pub minus : ℕ → ℤ
@@ -85,16 +86,20 @@ timeOr6 false day second = noTime badTime
 abbrev pub secondsADay : ℕ
 secondsADay = 86_400
 
--- "Key = day x 86,400 + second - offset"
-unfoldable pub keyOf : ℤ → ℤ → ℤ → ℤ
-keyOf day second offset = day *ℤ pos secondsADay +ℤ second -ℤ offset
+-- the moment of a local time: seconds from 1970-01-01 at offset 0
+unfoldable pub momentOf : ℤ → ℤ → ℤ → ℤ
+momentOf day second offset = day *ℤ pos secondsADay +ℤ second -ℤ offset
+
+-- "Key = day x 86,400 + second - offset": the key is the moment. Request 1 changes this line, `fromKey` and `toKey`
+abbrev pub keyOf : ℤ → ℤ → ℤ → ℤ
+keyOf day second offset = momentOf day second offset
 
 -- "Back: the day is the floor of (key + offset) / 86,400, the second is the remainder"
 unfoldable pub dayOf : ℤ → ℤ → ℤ
-dayOf key offset = floorDiv (key +ℤ offset) secondsADay
+dayOf moment offset = floorDiv (moment +ℤ offset) secondsADay
 
 unfoldable pub secondOf : ℤ → ℤ → ℤ
-secondOf key offset = pos (floorMod (key +ℤ offset) secondsADay)
+secondOf moment offset = pos (floorMod (moment +ℤ offset) secondsADay)
 
 -- the key of a local time at an offset; 6 where a field is out of its range
 unfoldable pub toKey : ℤ → ℤ → ℤ → KeyFound
@@ -105,3 +110,13 @@ toKey day second offset =
 unfoldable pub fromKey : ℤ → ℤ → TimeFound
 fromKey key offset =
     timeOr6 (goodOffset offset && goodDay (dayOf key offset)) (dayOf key offset) (secondOf key offset)
+
+-- a key that `fromKey` answers: the offset and the day that is read from it lie in their ranges
+pub record GoodKey (key offset : ℤ) : Type 0 where
+  pub offsetIn : Between offsetLow offsetHigh offset
+  pub dayIn : Between dayLow dayHigh (dayOf key offset)
+
+-- one local time lies before another
+pub data Before (day second day′ second′ : ℤ) : Type 0 where
+  earlierDay : day <ℤ day′ → Before day second day′ second′
+  sameDay : day ≡ day′ → second <ℤ second′ → Before day second day′ second′
