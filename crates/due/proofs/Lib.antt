@@ -1,0 +1,4 @@
+pub mod Sizes
+pub mod Mended
+pub mod Moments
+pub mod Single
