@@ -76,15 +76,17 @@ module _ (z : ℤ) (k : ℕ) (f : SFits w64 z) (h : 0 < k) (g : Fits w32 k) wher
     mended-rest =
         equal (remZ z (pos k) +ℤ pos k) (pos (floorMod z k)) (omega (arith, lifted .1, floored-one mended (floored z k h) .1))
 
-    pub less-fits : SFits w64 (quotZ z (pos k) -ℤ pos 1)
-    less-fits =
+    -- there is room for one less, as there is a rest besides the whole lots
+    pub less-fits : (m : ℤ) → up m ≤ 0 → down m ≤ 1 → SFits w64 (quotZ z (pos k) +ℤ m)
+    less-fits m u b =
         let q = quotZ z (pos k) in
-        let d = diff-law q (pos 1) in
-        let n = down-quot z k in
+        let d = sum-law q m in
+        let e = down-quot z k in
         let r = down-rem z k in
         let a = div-add-mod' (down z) k in
-        let m : down z / k * 1 ≤ down z / k * k = mul-le-mul-left (down z / k) h in
-        fits (q -ℤ pos 1) (omega (arith, sizes q quot-fits .0, apart (q -ℤ pos 1))) (omega (arith, sizes z f .1, lifted .3, apart (q -ℤ pos 1)))
+        let s : down z / k * 1 ≤ down z / k * k = mul-le-mul-left (down z / k) h in
+        fits (q +ℤ m) (omega (arith, sizes q quot-fits .0, apart (q +ℤ m)))
+        (omega (arith, sizes z f .1, lifted .3, apart (q +ℤ m)))
 
     pub more-fits : SFits w64 (remZ z (pos k) +ℤ pos k)
     more-fits = fits (remZ z (pos k) +ℤ pos k) (omega (arith, lifted .0)) (omega (arith, lifted .1))

@@ -4,7 +4,9 @@
 
 ghost use mathlib.Core.Path.{_≡_};
 ghost use Prim.Native.Nat.{_<_};
-ghost use lib.IntN.{pos};
+ghost use lib.IntN.{pos, _+ℤ_, _-ℤ_};
+ghost use mir.Syntax.{w64};
+ghost use mir.Val.{SFits};
 ghost use Rattle.rules.specs.Due.{within, GoodTime, momentOf, toKey, fromKey};
 ghost use Rattle.rules.specs.DueFloor.{floorDiv, floorMod};
 ghost use Rattle.due.specs.Answers.{keyFound, timeFound};
@@ -71,12 +73,28 @@ fn floored(z: i64, k: u32) -> Lots
     }
 }
 
+// The two ways between a moment and its local clock, which runs ahead of it by the offset. Each stands alone, so that
+// an offset taken with the wrong sign shows where it is taken.
+fn behind(z: i64, offset: i64) -> i64
+    requires { ⌜ SFits w64 (z -ℤ offset) ⌝ }
+    ensures { λ r. ⌜ r ≡ z -ℤ offset ⌝ }
+{
+    z - offset
+}
+
+fn ahead(z: i64, offset: i64) -> i64
+    requires { ⌜ SFits w64 (z +ℤ offset) ⌝ }
+    ensures { λ r. ⌜ r ≡ z +ℤ offset ⌝ }
+{
+    z + offset
+}
+
 // Seconds from 1970-01-01 at offset 0.
 fn moment(day: i64, second: i64, offset: i64) -> i64
     requires { ⌜ GoodTime day second offset ⌝ }
     ensures { λ r. ⌜ r ≡ momentOf day second offset ⌝ }
 {
-    day * 86_400 + second - offset
+    behind(day * 86_400 + second, offset)
 }
 
 // The key of a local time.
@@ -108,7 +126,7 @@ pub fn time_of(key: i64, offset: i64) -> TimeAnswer
     if !within(first, last, key) {
         return TimeAnswer::BadTime;
     }
-    let local = floored(key + offset, 86_400);
+    let local = floored(ahead(key, offset), 86_400);
     TimeAnswer::At(Time {
         day: local.whole,
         second: local.rest,

@@ -2,8 +2,9 @@
 -- proofs/Mended says. Assumes nothing.
 use mathlib.Core.Path.{_≡_, _∙_}
 use mathlib.Core.Bool.{true, false}
-use lib.IntN.{pos, _+ℤ_, _-ℤ_}
-use lib.Signed.{ltZ, remZ, quotZ}
+use lib.Dec.{lit≤}
+use lib.IntN.{pos}
+use lib.Signed.{ltZ, remZ}
 use mir.Facts.{toZ-ofZ}
 use Rattle.due.proofs.floored.Statement.{statement}
 use Rattle.due.proofs.floored.Tie as tie
@@ -38,21 +39,23 @@ sub-t8 : tie.Need-sub-t8
 sub-t8 c =
     let f = c .before .fits in
     let p = c .before .pre in
-    rw (toZ-ofZ (f .z), wide-reads (f .k), toZ-ofZ (quot-fits _ _ (f .z) p (f .k))) (less-fits _ _ (f .z) p (f .k) (below c))
+    rw (toZ-ofZ (f .z), wide-reads (f .k), toZ-ofZ (quot-fits _ _ (f .z) p (f .k)))
+    (less-fits _ _ (f .z) p (f .k) (below c) _ (lit≤ tt) (lit≤ tt))
 
 add-t9 : tie.Need-add-t9
 add-t9 c =
     let f = c .before .fits in
     let p = c .before .pre in
-    rw (toZ-ofZ (f .z), wide-reads (f .k), toZ-ofZ (rem-fits _ _ (f .z) p (f .k))) (more-fits _ _ (f .z) p (f .k) (below c))
+    rw (toZ-ofZ (f .z), wide-reads (f .k), toZ-ofZ (rem-fits _ _ (f .z) p (f .k)))
+    (more-fits _ _ (f .z) p (f .k) (below c))
 
 returns : tie.Need-returns
 returns c =
     let f = c .before .fits in
-    let p = c .before .pre in
-    let b = below c in
-    rw (toZ-ofZ (f .z), wide-reads (f .k), toZ-ofZ (quot-fits _ _ (f .z) p (f .k)), toZ-ofZ (rem-fits _ _ (f .z) p (f .k)), toZ-ofZ (less-fits _ _ (f .z) p (f .k) b), toZ-ofZ (more-fits _ _ (f .z) p (f .k) b))
-    (mended-whole _ _ (f .z) p (f .k) b, mended-rest _ _ (f .z) p (f .k) b)
+    let p = c .before .pre in (
+      toZ-ofZ (sub-t8 c) ∙ rw (toZ-ofZ (f .z), wide-reads (f .k), toZ-ofZ (quot-fits _ _ (f .z) p (f .k))) (mended-whole _ _ (f .z) p (f .k) (below c)),
+      toZ-ofZ (add-t9 c) ∙ rw (toZ-ofZ (f .z), wide-reads (f .k), toZ-ofZ (rem-fits _ _ (f .z) p (f .k))) (mended-rest _ _ (f .z) p (f .k) (below c)),
+    )
 
 returns-2 : tie.Need-returns-2
 returns-2 c =

@@ -75,22 +75,28 @@ returns-2 : tie.Need-returns-2
 unfolding fromKey
 returns-2 c = rw (offset-yes (c .before .before .before .before), day-no c)
 
-add-floored : tie.Need-add-floored
-add-floored c =
+ahead-requires : tie.Need-ahead-requires
+ahead-requires c κs =
     let f = c .before .before .before .before .before .before .fits in
     rw (toZ-ofZ (f .key), toZ-ofZ (f .offset)) (local-sum c)
 
 floored-requires : tie.Need-floored-requires
 floored-requires c κs = search needs
 
+-- what `floored` took apart is key + offset
+local-is : (c : tie.After-ahead) → c .ahead .result ≡ c .before .before .before .before .before .before .before .args .key +ℤ c .before .before .before .before .before .before .before .args .offset
+local-is c =
+    let f = c .before .before .before .before .before .before .before .fits in
+    rw (toZ-ofZ (f .key), toZ-ofZ (f .offset)) at (c .ahead .ensures)
+
 returns-3 : tie.Need-returns-3
 unfolding fromKey dayOf secondOf
 returns-3 c =
-    let f = c .before .before .before .before .before .before .before .before .fits in
     let w : SFits w64 (c .before .floored .result .whole) = search needs in
     let r : SFits w64 (c .before .floored .result .rest) = search needs in
-    let e = rw (toZ-ofZ (f .key), toZ-ofZ (f .offset), toZ-ofZ (local-sum (c .before .before))) at (c .before .floored .ensures) in
-    rw (offset-yes (c .before .before .before .before .before .before), day-range _ _ ∙ range-yes (c .before .before))
+    let b = c .before .before in
+    let e = rw (toZ-ofZ (sfits-of (b .ahead .ok)), local-is b) at (c .before .floored .ensures) in
+    rw (offset-yes (b .before .before .before .before .before), day-range _ _ ∙ range-yes (b .before))
     (ap₂ timeIs (toZ-ofZ w ∙ e .0) (toZ-ofZ r ∙ e .1))
 
 pub time-of-spec : {M : Type 1} → statement M
@@ -103,6 +109,6 @@ time-of-spec =
     moment-requires-2
     within-requires-2
     returns-2
-    add-floored
+    ahead-requires
     floored-requires
     returns-3)
