@@ -88,8 +88,11 @@ module _ (z : ℤ) (k : ℕ) (f : SFits w64 z) (h : 0 < k) (g : Fits w32 k) wher
         fits (q +ℤ m) (omega (arith, sizes q quot-fits .0, apart (q +ℤ m)))
         (omega (arith, sizes z f .1, lifted .3, apart (q +ℤ m)))
 
-    pub more-fits : SFits w64 (remZ z (pos k) +ℤ pos k)
-    more-fits = fits (remZ z (pos k) +ℤ pos k) (omega (arith, lifted .0)) (omega (arith, lifted .1))
+    pub more-fits : (m : ℤ) → up m < 2 ^ 32 → down m ≤ 0 → SFits w64 (remZ z (pos k) +ℤ m)
+    more-fits m u b =
+        let r = remZ z (pos k) in
+        fits (r +ℤ m) (omega (arith, sum-law r m, apart (r +ℤ m), lifted .2))
+        (omega (arith, sum-law r m, apart (r +ℤ m), sizes r rem-fits .1))
 
   -- a rest that is not below zero stays, with its quotient
   module _ (t : ltZ (remZ z (pos k)) (pos 0) ≡ false) where

@@ -2,6 +2,7 @@
 -- proofs/Mended says. Assumes nothing.
 use mathlib.Core.Path.{_≡_, _∙_}
 use mathlib.Core.Bool.{true, false}
+use native.Mathlib.Omega.{arith}
 use lib.Dec.{lit≤}
 use lib.IntN.{pos}
 use lib.Signed.{ltZ, remZ}
@@ -47,7 +48,7 @@ add-t9 c =
     let f = c .before .fits in
     let p = c .before .pre in
     rw (toZ-ofZ (f .z), wide-reads (f .k), toZ-ofZ (rem-fits _ _ (f .z) p (f .k)))
-    (more-fits _ _ (f .z) p (f .k) (below c))
+    (more-fits _ _ (f .z) p (f .k) (below c) _ (omega arith) (omega arith))
 
 returns : tie.Need-returns
 returns c =
