@@ -7,10 +7,10 @@ use Prim.Native.Nat.{ℕ, _+_, _*_, _≤_, _<_}
 use native.Mathlib.Omega.{arith}
 use lib.Dec.{T, lit<}
 use lib.IntN.{ℤ, pos, _+ℤ_, _-ℤ_, _*ℤ_}
-use lib.Signed.{_≤ℤ_, _<ℤ_}
+use lib.Signed.{ltZ, _≤ℤ_, _<ℤ_}
 use Rattle.rules.specs.DueFloor.{Floored, floorDiv, floorMod}
 use Rattle.rules.specs.Due.{within, Between, Before, earlierDay, sameDay, dayLow, dayHigh, secondLow, secondHigh, secondsADay, momentOf, dayOf, secondOf}
-use Rattle.rules.proofs.DueSigns.{up, down, apart, equal, sum-law, diff-law, up-times, down-times, le-out, le-in, lt-out, lt-in}
+use Rattle.rules.proofs.DueSigns.{up, down, apart, equal, sum-law, diff-law, up-times, down-times, le-out, le-in, lt-out, lt-in, ltZ-false, true→yes}
 use Rattle.rules.proofs.DueFloors.{floored, floored-out, floored-in, floored-one}
 use Rattle.rules.proofs.DueRanges.{within-yes, within-fact, same-test}
 
@@ -62,6 +62,21 @@ moment-later d s d′ s′ o g g′ (earlierDay h) =
     lt-in (momentOf d s o) (momentOf d′ s′ o) (omega (arith, moment-law d s o, moment-law d′ s′ o, lt-out h, le-out (g .below), le-out (g′ .above), apart s, apart s′))
 moment-later d s d′ s′ o g g′ (sameDay e h) =
     lt-in (momentOf d s o) (momentOf d′ s′ o) (omega (arith, moment-law d s o, moment-law d′ s′ o, ap up e, ap down e, lt-out h))
+
+-- and the other way round
+pub moment-earlier : (d s d′ s′ o : ℤ) → Between secondLow secondHigh s → Between secondLow secondHigh s′ → momentOf d s o <ℤ momentOf d′ s′ o → Before d s d′ s′
+moment-earlier d s d′ s′ o g g′ h = go (ltZ d d′) refl
+  where
+    go : (t : Bool) → ltZ d d′ ≡ t → Before d s d′ s′
+    go true e = earlierDay (record { lt = true→yes e })
+    go false e =
+        let m = lt-out h in
+        let a = moment-law d s o in
+        let b = moment-law d′ s′ o in
+        let n = ltZ-false d d′ e in
+        let same : up d + down d′ ≡ up d′ + down d =
+        omega (arith, le-out (g .above), le-out (g′ .below), apart s, apart s′) in
+        sameDay (equal d d′ same) (lt-in s s′ (omega arith))
 
 -- ---- the range: which moments have a day in its range, told without a division
 

@@ -11,7 +11,7 @@ use lib.Signed.{_<ℤ_}
 use Rattle.rules.specs.Due.{Between, GoodTime, GoodKey, Before, goodDay, goodSecond, goodOffset, dayLow, dayHigh, secondLow, secondHigh, badTime, KeyFound, keyIs, noKey, TimeFound, timeIs, noTime, keyOr6, timeOr6, keyOf, dayOf, secondOf, toKey, fromKey}
 use Rattle.rules.proofs.DueSigns.{true→yes}
 use Rattle.rules.proofs.DueRanges.{both, both-out, within-yes, within-fact, good-yes, good-fact}
-use Rattle.rules.proofs.DueMoments.{back, there, secondOf-in, moment-later}
+use Rattle.rules.proofs.DueMoments.{back, there, secondOf-in, moment-later, moment-earlier}
 
 -- ---- the key of a time
 
@@ -120,6 +120,14 @@ inverse d s o k = (to, back-and-there k o d s)
 
 -- ---- the order
 
--- at one offset, of two times in their ranges the later one has the greater key
-pub later : (d s d′ s′ o : ℤ) → GoodTime d s o → GoodTime d′ s′ o → Before d s d′ s′ → keyOf d s o <ℤ keyOf d′ s′ o
-later d s d′ s′ o g g′ h = moment-later d s d′ s′ o (g .secondIn) (g′ .secondIn) h
+-- at one offset, of two times in their ranges the later one has the greater key, and no other
+pub order : (d s d′ s′ o : ℤ) → GoodTime d s o → GoodTime d′ s′ o → (Before d s d′ s′) ↔ (keyOf d s o <ℤ keyOf d′ s′ o)
+order d s d′ s′ o g g′ =
+    (moment-later d s d′ s′ o (g .secondIn) (g′ .secondIn), moment-earlier d s d′ s′ o (g .secondIn) (g′ .secondIn))
+
+-- the same, told of the answers
+pub later : (d s d′ s′ o k k′ : ℤ) → toKey d s o ≡ keyIs k → toKey d′ s′ o ≡ keyIs k′ → Before d s d′ s′ → k <ℤ k′
+later d s d′ s′ o k k′ e e′ h =
+    let p = toKey-key d s o k .0 e in
+    let q = toKey-key d′ s′ o k′ .0 e′ in
+    rw (p .1, q .1) (order d s d′ s′ o (p .0) (q .0) .0 h)

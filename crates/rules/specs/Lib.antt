@@ -11,5 +11,6 @@ pub mod Handles
 pub mod Table
 pub mod Calls
 pub mod Bench
+-- The definitions of document 01, a module for each part of it.
 pub mod Due
 pub mod DueFloor
