@@ -49,9 +49,9 @@ unfolding secondOf
 there d s o h =
     let m = momentOf d s o in
     let zero : down s ≡ 0 = omega (arith, le-out (h .above), apart s) in
-    let p =
-    floored-one (split m o)
-    (floored-in (m +ℤ o) d secondsADay (up s) (omega (arith, moment-law d s o, sum-law m o)) (omega (arith, le-out (h .below)))) in
+    let small : up s < secondsADay = omega (arith, le-out (h .below)) in
+    let f = floored-in (m +ℤ o) d secondsADay (up s) (omega (arith, moment-law d s o, sum-law m o)) small in
+    let p = floored-one (split m o) f in
     (p .0, equal (secondOf m o) s (omega (arith, p .1)))
 
 -- ---- the order
@@ -74,8 +74,9 @@ moment-earlier d s d′ s′ o g g′ h = go (ltZ d d′) refl
         let a = moment-law d s o in
         let b = moment-law d′ s′ o in
         let n = ltZ-false d d′ e in
-        let same : up d + down d′ ≡ up d′ + down d =
-        omega (arith, le-out (g .above), le-out (g′ .below), apart s, apart s′) in
+        let low = le-out (g .above) in
+        let high = le-out (g′ .below) in
+        let same : up d + down d′ ≡ up d′ + down d = omega (arith, apart s, apart s′) in
         sameDay (equal d d′ same) (lt-in s s′ (omega arith))
 
 -- ---- the range: which moments have a day in its range, told without a division

@@ -132,10 +132,10 @@ pub fn question(s: &[u8]) -> Asked {
     if s.len() < 4 {
         return Asked::Nothing;
     }
-    if s[0] == b'k' && s[1] == b'e' && s[2] == b'y' {
+    if check::same(&s[0..3], b"key") {
         return key_asked(s);
     }
-    if s[0] == b't' && s[1] == b'i' && s[2] == b'm' && s[3] == b'e' {
+    if check::same(&s[0..4], b"time") {
         return time_asked(s);
     }
     Asked::Nothing
