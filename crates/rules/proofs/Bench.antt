@@ -13,8 +13,9 @@ use Rattle.rules.specs.Place.{ofGeneration, spotOf}
 use Rattle.rules.specs.Insert.{addWith, placeNormal, insertNormal, placeEmpty, insertEmpty, placeManual, insertManual}
 use Rattle.rules.specs.Remove.{freed, noteOf, removeSpot, remove}
 use Rattle.rules.specs.Calls.{answer, run}
+use Rattle.rules.proofs.DueRuns.{run-K}
 use Rattle.rules.specs.Bench.{key, countsOf, listing, outcome, Starred, put, added, take, took, ent, line, counts, from1, from3, from4, bench, scriptA, answersA, runA, runB, runC, runD, runE, runF, runG, runH, runI, runJ}
 
 pub starred : Starred
 unfolding decLe decLt ℕ-discrete choose first last inorder size plug before after neighbour replaceAt placeRound byPlace insertClimb insertAt takeRound byTake removeClimb settle endmost vacateEnd vacate removeAt keyRound byKey find findSlot besideOf freshFrom fresh ofGeneration spotOf addWith placeNormal insertNormal placeEmpty insertEmpty placeManual insertManual freed noteOf removeSpot remove answer run key countsOf listing outcome put added take took ent line counts from1 from3 from4 bench scriptA answersA runA runB runC runD runE runF runG runH runI runJ
-starred = record { queue = (refl, (refl, (refl, (refl, (refl, (refl, (refl, (refl, (refl, (refl, tt)))))))))) }
+starred = record { queue = (refl, (refl, (refl, (refl, (refl, (refl, (refl, (refl, (refl, (refl, tt)))))))))); times = run-K }

@@ -11,6 +11,8 @@ use Rattle.rules.specs.Queue.{Handle, handle, Queue, fresh}
 use Rattle.rules.specs.Answers.{new, replacing, notInserted, noNote, generationOverflow, removed, notWithinCapacity, failedOrdRequirement}
 use Rattle.rules.specs.Insert.{less}
 use Rattle.rules.specs.Calls.{Call, normal, onEmpty, manual, removal, Answer, insertion, taken, run}
+use Rattle.rules.specs.Due.{minus, fromKey, timeIs}
+use lib.IntN.{pos}
 
 -- the stored form of document 01's key n
 unfoldable pub key : ℕ → ℕ
@@ -188,7 +190,8 @@ runJ = bench (manual (handle 0 1) less (key 10) 1 ∷ onEmpty (key 10) 2 ∷ [])
 abbrev pub runs : List Run
 runs = runA ∷ runB ∷ runC ∷ runD ∷ runE ∷ runF ∷ runG ∷ runH ∷ runI ∷ runJ ∷ []
 
--- Document 01 asks for "a single table under a single theorem". Run K speaks of due times (specs/Due) and of no queue: it
--- joins this record as a second part, `times`, when those modules stand beside this one.
+-- Document 01 asks for "a single table under a single theorem". Run K speaks of due times and of no queue, so it is a part of its own.
 pub record Starred : Type 0 where
   pub queue : All Comes runs
+  -- "*K: Key -1 is at day -1, second 86,399."
+  pub times : fromKey (minus 1) (pos 0) ≡ timeIs (minus 1) (pos 86_399)

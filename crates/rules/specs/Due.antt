@@ -7,6 +7,7 @@ use mathlib.Core.Bool.{Bool, true, false, _&&_}
 use lib.IntN.{ℤ, pos, negℤ, _+ℤ_, _-ℤ_, _*ℤ_}
 use lib.Signed.{leZ, _≤ℤ_, _<ℤ_}
 use Rattle.rules.specs.DueFloor.{floorDiv, floorMod}
+use Rattle.rules.specs.Answers.{badTime}
 
 abbrev pub minus : ℕ → ℤ
 minus n = negℤ (pos n)
@@ -58,10 +59,6 @@ pub record GoodTime (day second offset : ℤ) : Type 0 where
   pub offsetIn : Between offsetLow offsetHigh offset
 
 -- ---- the answers
-
--- "6 | BadTime (added) | a time field or key out of range"
-abbrev pub badTime : ℕ
-badTime = 6
 
 -- the key, or the refusal's number
 pub data KeyFound : Type 0 where
