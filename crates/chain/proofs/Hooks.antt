@@ -1,11 +1,11 @@
 -- The laws of `hooked`, which all writes to a neighbour or to an end go through. One law over the side.
 use Prim.Native.Nat.{ℕ, _+_, _-_, _<_, _≤_}
-use mathlib.Core.Path.{_≡_, refl}
+use mathlib.Core.Path.{_≡_}
 use mathlib.Core.List.{List}
 use native.Mathlib.Omega.{arith}
 use native.Mathlib.Decide.{decLt}
 use borrow.Author.Tests.{lt-ltb, le-ltb}
-use Rattle.arena.specs.Words.{Room, headWords, fields, field, put, head, putHead, PREV, NEXT, FIRST, LAST}
+use Rattle.arena.specs.Words.{Room, headWords, fields, field, put, head, putHead, NEXT, FIRST}
 use Rattle.arena.proofs.Laws.{field-same, head-put, head-same, head-other, field-putHead}
 use Rattle.chain.specs.Kept.{ChainOnly}
 use Rattle.chain.specs.Links.{hooked}

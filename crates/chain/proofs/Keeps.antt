@@ -1,10 +1,10 @@
 -- Writes that touch nothing but the chain, one after another; and a write seen by slot and field at once.
 use Prim.Native.Nat.{ℕ, _<_, _≤_}
-use mathlib.Core.Path.{_≡_, refl, _∙_}
+use mathlib.Core.Path.{_≡_, _∙_}
 use mathlib.Core.List.{List}
 use native.Mathlib.Omega.{arith}
 use native.Mathlib.Decide.{ℕ-discrete}
-use Rattle.arena.specs.Words.{Room, headWords, fields, field, put, head, putHead, PREV, NEXT, FIRST, LAST}
+use Rattle.arena.specs.Words.{Room, headWords, fields, field, put, putHead, PREV, NEXT, FIRST, LAST}
 use Rattle.arena.proofs.Laws.{length-put, length-putHead, field-slot, field-off, head-put, rest-put, head-other, field-putHead, rest-putHead}
 use Rattle.chain.specs.Kept.{ChainOnly}
 

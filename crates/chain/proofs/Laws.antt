@@ -1,7 +1,7 @@
 -- What linking in and out does to a store, for proofs on sound stores: the values afterwards, and all that stays.
 -- One law over the side. `between` and `joined` are the two models once the neighbours are named (`beside-is`, `unlink-is`).
 use Prim.Native.Nat.{ℕ, zero, suc, _+_, _-_, _<_, _≤_}
-use mathlib.Core.Path.{_≡_, refl, sym, _∙_, ap}
+use mathlib.Core.Path.{_≡_, _∙_}
 use mathlib.Core.List.{List}
 use native.Mathlib.Omega.{arith}
 use Rattle.handle.specs.Numbers.{noSlot}

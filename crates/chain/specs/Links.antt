@@ -5,7 +5,7 @@ use mathlib.Core.List.{List}
 use lib.Dec.{ltb}
 use Rattle.handle.specs.Numbers.{noSlot}
 use Rattle.arena.specs.Branch.{ifte}
-use Rattle.arena.specs.Words.{field, put, head, putHead, PREV, NEXT, FIRST, LAST}
+use Rattle.arena.specs.Words.{field, put, putHead, PREV, NEXT, FIRST, LAST}
 use Rattle.chain.specs.declared.Neighbours.{Neighbours}
 
 -- the word that leads to what stands on side d of q, at p or at the end where p is no slot, comes to hold q

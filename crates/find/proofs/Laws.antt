@@ -1,5 +1,5 @@
 -- What the search comes to, node by node, for proofs on sound stores; what it reads; and what holds of its answer on any words.
-use Prim.Native.Nat.{ℕ, zero, suc, _+_, _-_, _<_, _≤_}
+use Prim.Native.Nat.{ℕ, zero, suc, _+_, _<_, _≤_}
 use mathlib.Core.Path.{_≡_, refl, sym, _∙_}
 use mathlib.Core.List.{List}
 use native.Mathlib.Omega.{arith}
@@ -8,7 +8,6 @@ use borrow.Author.Tests.{lt-ltb, le-ltb, eq-eqb, ne-eqb, le-leb, lt-leb}
 use Rattle.handle.specs.Numbers.{noSlot}
 use Rattle.arena.specs.Words.{field, head, KEY, LEFT, RIGHT, ROOT}
 use Rattle.find.specs.Seeking.{budget, sideOf, seekFrom, seekAt, seekModel, FoundIn}
-use Rattle.find.specs.declared.Found.{Found}
 use Rattle.find.specs.declared.Found.the-variants.{Equal, Beside, Empty, NotSound}
 
 -- left if less, right if greater
