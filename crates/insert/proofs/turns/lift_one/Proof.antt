@@ -26,7 +26,7 @@ same-length c = search needs
 
 returns : tie.Need-returns
 unfolding liftedOne
-returns c = 
+returns c =
     let c₅ = c .before .before in
     let c₄ = c₅ .before .before .before .before in
     let c₃ = c₄ .before .before .before .before in

@@ -32,7 +32,7 @@ same-length c = search needs
 
 returns : tie.Need-returns
 unfolding spreadBelow
-returns c = 
+returns c =
     let c₅ = c .before .before in
     let c₄ = c₅ .before .before in
     let c₃ = c₄ .before .before in

@@ -20,7 +20,7 @@ same-length c = search needs
 
 returns : tie.Need-returns
 unfolding turnedSame
-returns c = 
+returns c =
     let c₃ = c .before .before in
     let c₂ = c₃ .before .before in
     let c₁ = c₂ .before .before in
