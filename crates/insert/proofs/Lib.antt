@@ -1,2 +1,3 @@
+pub mod Choices
 pub mod Climbs
 pub mod Fixes

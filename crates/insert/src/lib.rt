@@ -1,4 +1,5 @@
 // Placing a strike: where a new entry goes by each kind of insertion, the look-ahead, and the ranks afterwards.
 // Each function equals its model in specs/ on any words. From the Rust: ord/insert.rs.
+pub mod kinds;
 pub mod ranks;
 pub mod turns;
