@@ -1,5 +1,3 @@
 pub mod Choices
-pub mod Climbs
-pub mod Fixes
 pub mod Foresights
 pub mod Placings

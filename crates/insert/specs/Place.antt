@@ -17,7 +17,7 @@ use Rattle.arena.specs.declared.slots.Taken.{Taken}
 use Rattle.arena.specs.declared.slots.Taken as T
 use Rattle.tree.specs.Links.{withNode, withChild}
 use Rattle.chain.specs.Links.{linkAlone, linkBeside}
-use Rattle.insert.specs.Ranks.{rebalanced}
+use Rattle.rebalance.specs.Ranks.{rebalanced}
 use Rattle.insert.specs.Kinds.{preparedNormal, preparedEmpty, preparedManual}
 use Rattle.insert.specs.declared.kinds.Prepared.{Prepared}
 use Rattle.insert.specs.declared.kinds.Prepared.the-variants.{Alone, Beside, Replace, Fail, NotSound}

@@ -9,7 +9,6 @@ ghost use Rattle.insert.specs.Place.{standAlone, placedAlone, hungBelow,
 use crate::ahead;
 use crate::kinds;
 use crate::kinds::Prepared;
-use crate::ranks;
 use arena::entries;
 use arena::keys;
 use arena::slots;
@@ -21,6 +20,7 @@ use handle::Handle;
 use handle::Key;
 use handle::Refusal;
 use handle::Side;
+use rebalance::ranks;
 
 // "Any insertion answers New or Replacing with the handle, and the old value if replacing."
 pub enum Inserted {

@@ -4,9 +4,9 @@ use mathlib.Core.Path.{_≡_}
 use mathlib.Core.Bool.{Bool, true, false}
 use mathlib.Core.List.{List}
 use native.Mathlib.Omega.{arith}
-use Rattle.insert.specs.Ranks.{budget, FixedIn, fixTurn, climbFrom}
-use Rattle.insert.specs.declared.ranks.Fixed.{Fixed}
-use Rattle.insert.specs.declared.ranks.Fixed.the-variants.{Done, Up, NotSound}
+use Rattle.rebalance.specs.Ranks.{budget, FixedIn, fixTurn, climbFrom}
+use Rattle.rebalance.specs.declared.ranks.Fixed.{Fixed}
+use Rattle.rebalance.specs.declared.ranks.Fixed.the-variants.{Done, Up, NotSound}
 
 -- n turns are done: one more may be taken, or none
 left : (n : ℕ) → n < budget → budget - n ≡ suc (budget - (n + 1))

@@ -1,7 +1,7 @@
 use borrow.Author.Needs.{needs}
-use Rattle.insert.specs.Turns.{spreadWith}
-use Rattle.insert.proofs.turns.spread.Statement.{statement}
-use Rattle.insert.proofs.turns.spread.Tie as tie
+use Rattle.rebalance.specs.Turns.{spreadWith}
+use Rattle.rebalance.proofs.turns.spread.Statement.{statement}
+use Rattle.rebalance.proofs.turns.spread.Tie as tie
 
 put-back-requires : tie.Need-put-back-requires
 put-back-requires c κs = search needs

@@ -1,7 +1,7 @@
 use borrow.Author.Needs.{needs}
-use Rattle.insert.specs.Turns.{spreadBelow}
-use Rattle.insert.proofs.turns.spread_below.Statement.{statement}
-use Rattle.insert.proofs.turns.spread_below.Tie as tie
+use Rattle.rebalance.specs.Turns.{spreadBelow}
+use Rattle.rebalance.proofs.turns.spread_below.Statement.{statement}
+use Rattle.rebalance.proofs.turns.spread_below.Tie as tie
 
 add-field : tie.Need-add-field
 add-field c = search needs

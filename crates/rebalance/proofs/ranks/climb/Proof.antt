@@ -3,10 +3,10 @@ use Prim.Native.Nat.{_-_, _≤_, _<_}
 use native.Mathlib.Omega.{arith}
 use borrow.Author.Needs.{needs}
 use lib.ListN.{length}
-use Rattle.insert.specs.Ranks.{budget, climbFrom}
-use Rattle.insert.proofs.Climbs.{again, ended, refused, spent, up-low, up-side}
-use Rattle.insert.proofs.ranks.climb.Statement.{statement}
-use Rattle.insert.proofs.ranks.climb.Tie as tie
+use Rattle.rebalance.specs.Ranks.{budget, climbFrom}
+use Rattle.rebalance.proofs.Climbs.{again, ended, refused, spent, up-low, up-side}
+use Rattle.rebalance.proofs.ranks.climb.Statement.{statement}
+use Rattle.rebalance.proofs.ranks.climb.Tie as tie
 
 abbrev Inv-climb : tie.InvT-climb
 Inv-climb s₀ cap q0 q1 q2 e01 e12 p0₀ p1₀ p2₀ d01₀ d12₀ n₀ s p0 p1 p2 d01 d12 n =

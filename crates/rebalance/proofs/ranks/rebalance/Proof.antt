@@ -1,7 +1,7 @@
-use Rattle.insert.proofs.Fixes.{rank-fits, rank-raised}
+use Rattle.rebalance.proofs.Fixes.{rank-fits, rank-raised}
 use borrow.Author.Needs.{needs}
-use Rattle.insert.proofs.ranks.rebalance.Statement.{statement}
-use Rattle.insert.proofs.ranks.rebalance.Tie as tie
+use Rattle.rebalance.proofs.ranks.rebalance.Statement.{statement}
+use Rattle.rebalance.proofs.ranks.rebalance.Tie as tie
 
 field-requires : tie.Need-field-requires
 field-requires c κs = search needs

@@ -1,7 +1,7 @@
-use Rattle.insert.proofs.Fixes.{top-reached, climbs}
+use Rattle.rebalance.proofs.Fixes.{top-reached, climbs}
 use borrow.Author.Needs.{needs}
-use Rattle.insert.proofs.ranks.climb_above.Statement.{statement}
-use Rattle.insert.proofs.ranks.climb_above.Tie as tie
+use Rattle.rebalance.proofs.ranks.climb_above.Statement.{statement}
+use Rattle.rebalance.proofs.ranks.climb_above.Tie as tie
 
 field-requires : tie.Need-field-requires
 field-requires c κs = search needs

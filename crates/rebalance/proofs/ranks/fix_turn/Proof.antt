@@ -1,9 +1,9 @@
 use Rattle.arena.proofs.Paths.{paths}
-use Rattle.insert.specs.Ranks.{fixWith}
-use Rattle.insert.proofs.Fixes.{fix-reads, fix-same, fix-across}
+use Rattle.rebalance.specs.Ranks.{fixWith}
+use Rattle.rebalance.proofs.Fixes.{fix-reads, fix-same, fix-across}
 use borrow.Author.Needs.{needs}
-use Rattle.insert.proofs.ranks.fix_turn.Statement.{statement}
-use Rattle.insert.proofs.ranks.fix_turn.Tie as tie
+use Rattle.rebalance.proofs.ranks.fix_turn.Statement.{statement}
+use Rattle.rebalance.proofs.ranks.fix_turn.Tie as tie
 
 field-requires : tie.Need-field-requires
 field-requires c κs = search needs

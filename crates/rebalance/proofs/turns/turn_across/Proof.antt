@@ -1,7 +1,7 @@
 use borrow.Author.Needs.{needs}
-use Rattle.insert.specs.Turns.{turnedAcross}
-use Rattle.insert.proofs.turns.turn_across.Statement.{statement}
-use Rattle.insert.proofs.turns.turn_across.Tie as tie
+use Rattle.rebalance.specs.Turns.{turnedAcross}
+use Rattle.rebalance.proofs.turns.turn_across.Statement.{statement}
+use Rattle.rebalance.proofs.turns.turn_across.Tie as tie
 
 field-requires : tie.Need-field-requires
 field-requires c κs = search needs

@@ -6,10 +6,10 @@ use mathlib.Core.List.{List}
 use borrow.Author.Tests.{lt-ltb, le-ltb, le-leb, lt-leb, eq-eqb, ne-eqb}
 use Rattle.arena.specs.Words.{field, put, RIGHT, RANK, BACK}
 use Rattle.tree.specs.Links.{rankOf, sideOf}
-use Rattle.insert.specs.Turns.{turnedSame, turnedAcross}
-use Rattle.insert.specs.Ranks.{budget, above, raisedUp, fixWith, fixTurn, climbFrom, climbedTo, climbedAbove, rebalanced}
-use Rattle.insert.specs.declared.ranks.Fixed.{Fixed}
-use Rattle.insert.specs.declared.ranks.Fixed.the-variants.{Done, Up}
+use Rattle.rebalance.specs.Turns.{turnedSame, turnedAcross}
+use Rattle.rebalance.specs.Ranks.{budget, above, raisedUp, fixWith, fixTurn, climbFrom, climbedTo, climbedAbove, rebalanced}
+use Rattle.rebalance.specs.declared.ranks.Fixed.{Fixed}
+use Rattle.rebalance.specs.declared.ranks.Fixed.the-variants.{Done, Up}
 
 module _ (s : List ℕ) (cap p2 p3 r1 : ℕ) (x : List ℕ) (e : x ≡ put s cap p2 RANK (r1 + 1)) where
   pub raise-up : p3 < cap → (d : ℕ) → d ≡ sideOf x cap p3 p2 → _≡_ {A = List ℕ × Fixed} (x, Up p3 d) (raisedUp s cap p2 p3 r1)

@@ -1,8 +1,8 @@
 use native.Mathlib.Omega.{arith}
-use Rattle.insert.proofs.Fixes.{raise-up, raise-done}
+use Rattle.rebalance.proofs.Fixes.{raise-up, raise-done}
 use borrow.Author.Needs.{needs}
-use Rattle.insert.proofs.ranks.raise.Statement.{statement}
-use Rattle.insert.proofs.ranks.raise.Tie as tie
+use Rattle.rebalance.proofs.ranks.raise.Statement.{statement}
+use Rattle.rebalance.proofs.ranks.raise.Tie as tie
 
 add-put : tie.Need-add-put
 add-put c = search needs

@@ -4,7 +4,7 @@
 ghost use mathlib.Core.Path.{_≡_};
 ghost use Prim.Native.Nat.{_<_, _≤_};
 ghost use Rattle.arena.specs.Words.{Room};
-ghost use Rattle.insert.specs.Ranks.{FixedIn, raisedUp, fixTurn, climbFrom, climbedAbove, rebalanced};
+ghost use Rattle.rebalance.specs.Ranks.{FixedIn, raisedUp, fixTurn, climbFrom, climbedAbove, rebalanced};
 use crate::turns;
 use arena::words;
 use arena::words::BACK;

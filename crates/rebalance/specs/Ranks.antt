@@ -8,9 +8,9 @@ use lib.Dec.{ltb, leb, eqb}
 use Rattle.arena.specs.Branch.{ifte}
 use Rattle.arena.specs.Words.{field, put, RIGHT, RANK, BACK}
 use Rattle.tree.specs.Links.{rankOf, sideOf}
-use Rattle.insert.specs.Turns.{turnedSame, turnedAcross}
-use Rattle.insert.specs.declared.ranks.Fixed.{Fixed}
-use Rattle.insert.specs.declared.ranks.Fixed.the-variants.{Done, Up, NotSound}
+use Rattle.rebalance.specs.Turns.{turnedSame, turnedAcross}
+use Rattle.rebalance.specs.declared.ranks.Fixed.{Fixed}
+use Rattle.rebalance.specs.declared.ranks.Fixed.the-variants.{Done, Up, NotSound}
 
 -- how far the climb goes, and a rank that it never meets
 abbrev pub budget : ℕ

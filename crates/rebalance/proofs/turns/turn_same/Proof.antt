@@ -1,7 +1,7 @@
 use borrow.Author.Needs.{needs}
-use Rattle.insert.specs.Turns.{turnedSame}
-use Rattle.insert.proofs.turns.turn_same.Statement.{statement}
-use Rattle.insert.proofs.turns.turn_same.Tie as tie
+use Rattle.rebalance.specs.Turns.{turnedSame}
+use Rattle.rebalance.proofs.turns.turn_same.Statement.{statement}
+use Rattle.rebalance.proofs.turns.turn_same.Tie as tie
 
 sub-field : tie.Need-sub-field
 sub-field c = search needs
