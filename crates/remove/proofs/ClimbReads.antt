@@ -4,9 +4,9 @@ use mathlib.Core.Path.{_≡_}
 use mathlib.Core.List.{List}
 use borrow.Author.Tests.{lt-ltb, le-ltb}
 use Rattle.arena.specs.Words.{field, put, LEFT, RIGHT, RANK, BACK}
-use Rattle.tree.specs.Links.{sideOf, withBack, withNode, relinked}
+use Rattle.tree.specs.Links.{rankOf, sideOf, withBack, withNode, relinked}
 use Rattle.remove.specs.Turns.{turnOnce, hung, turnTwiceWith, turnTwice}
-use Rattle.remove.specs.Climb.{goUpTo, goUp, onward, lowerOne, lowerBoth}
+use Rattle.remove.specs.Climb.{goUpTo, goUp, onward, lowerOne, lowerBoth, climbPastWith, climbPast, climbAtWith, climbAt, climbTurnWith, climbTurn}
 use Rattle.remove.specs.declared.climbing.Climbed.{Climbed}
 use Rattle.remove.specs.declared.climbing.Climbed.the-variants.{Done, Up}
 
@@ -46,3 +46,20 @@ pub lowered-both : (s : List ℕ) (cap p1 s0 rank0 : ℕ) (x : List ℕ) (r : Li
     → r ≡ lowerOne x cap p1 (rank0 + 2) → r ≡ lowerBoth s cap p1 s0 rank0
 unfolding lowerBoth
 lowered-both s cap p1 s0 rank0 x r e f = rw (← e) f
+
+pub past-reads : (s : List ℕ) (cap d p0 p1 s0 rank0 rank1 rs : ℕ) (x : List ℕ × Climbed) (a b ra rb p2 : ℕ)
+    → a ≡ field s cap s0 (LEFT + d) → b ≡ field s cap s0 (RIGHT - d) → ra ≡ rankOf s cap a → rb ≡ rankOf s cap b → p2 ≡ field s cap p1 BACK
+    → x ≡ climbPastWith s cap d p0 p1 s0 rank0 rank1 rs a b ra rb p2 → x ≡ climbPast s cap d p0 p1 s0 rank0 rank1 rs
+unfolding climbPast
+past-reads s cap d p0 p1 s0 rank0 rank1 rs x a b ra rb p2 e f g h i q = rw (← e, ← f, ← g, ← h, ← i) q
+
+pub at-reads : (s : List ℕ) (cap d p0 p1 s0 rank0 rank1 : ℕ) (x : List ℕ × Climbed) (rs : ℕ)
+    → rs ≡ field s cap s0 RANK → x ≡ climbAtWith s cap d p0 p1 s0 rank0 rank1 rs → x ≡ climbAt s cap d p0 p1 s0 rank0 rank1
+unfolding climbAt
+at-reads s cap d p0 p1 s0 rank0 rank1 x rs e q = rw (← e) q
+
+pub turn-reads : (s : List ℕ) (cap p1 d : ℕ) (x : List ℕ × Climbed) (p0 s0 rank1 rank0 : ℕ)
+    → p0 ≡ field s cap p1 (LEFT + d) → s0 ≡ field s cap p1 (RIGHT - d) → rank1 ≡ field s cap p1 RANK → rank0 ≡ rankOf s cap p0
+    → x ≡ climbTurnWith s cap p1 d p0 s0 rank1 rank0 → x ≡ climbTurn s cap p1 d
+unfolding climbTurn
+turn-reads s cap p1 d x p0 s0 rank1 rank0 e f g h q = rw (← e, ← f, ← g, ← h) q

@@ -1,1 +1,2 @@
 pub mod ClimbReads
+pub mod ClimbLoop
