@@ -1,0 +1,189 @@
+// The climb after a removal: from the parent n1 of the emptied place, ranks are lowered up the tree until they fit or a rotation mends them.
+// Each turn is a function of its own that tells the loop whether to go on; the loop has a budget that a sound store never meets.
+// From the Rust: the second loop of ord/remove.rs.
+ghost use mathlib.Core.Path.{_≡_};
+ghost use Prim.Native.Nat.{_<_, _≤_};
+ghost use Rattle.arena.specs.Words.{Room};
+ghost use Rattle.lower.specs.Climb.{goUp, Standing, lowerOne, lowerBoth, climbPast, climbAt, climbTurn, climbFrom};
+use crate::turns;
+use arena::words;
+use arena::words::BACK;
+use arena::words::LEFT;
+use arena::words::RANK;
+use arena::words::RIGHT;
+
+// After a turn: the ranks fit from here on, or the climb goes on at a node whose child on that side lost a rank.
+pub enum Climbed {
+    Done,
+    Up(u64, u64),
+    NotSound,
+}
+
+// One up from p1, which lost a rank.
+fn go_up(s: &[u64], cap: u64, p1: u64) -> Climbed
+    requires { ⌜ Room (now s) cap ⌝ }
+    requires { ⌜ p1 < cap ⌝ }
+    ensures { λ r. ⌜ r ≡ goUp (now (s .entry)) cap p1 ⌝ }
+    ensures { λ r. ⌜ Standing cap r ⌝ }
+{
+    let p2 = words::field(s, cap, p1, BACK);
+    if p2 < cap {
+        let d = tree::side_of(s, cap, p2, p1);
+        return Climbed::Up(p2, d);
+    }
+    Climbed::Done
+}
+
+// n1 gets a lower rank, and the climb goes one up.
+pub fn lower_one(s: &mut [u64], cap: u64, p1: u64, rank: u64) -> Climbed
+    requires { ⌜ Room (now s) cap ⌝ }
+    requires { ⌜ p1 < cap ⌝ }
+    ensures { λ r. ⌜ (now (s .exit), r) ≡ lowerOne (now (s .entry)) cap p1 rank ⌝ }
+    ensures { λ r. ⌜ Standing cap r ⌝ }
+{
+    words::put(s, cap, p1, RANK, rank);
+    go_up(s, cap, p1)
+}
+
+// "both two below s0, lower n1 and s0 and climb"
+fn lower_both(s: &mut [u64], cap: u64, p1: u64, s0: u64, rank0: u64) -> Climbed
+    requires { ⌜ Room (now s) cap ⌝ }
+    requires { ⌜ p1 < cap ⌝ }
+    requires { ⌜ s0 < cap ⌝ }
+    requires { ⌜ rank0 < 64 ⌝ }
+    ensures { λ r. ⌜ (now (s .exit), r) ≡ lowerBoth (now (s .entry)) cap p1 s0 rank0 ⌝ }
+    ensures { λ r. ⌜ Standing cap r ⌝ }
+{
+    words::put(s, cap, s0, RANK, rank0 + 1);
+    lower_one(s, cap, p1, rank0 + 2)
+}
+
+// The turn by the children a and b of the sibling s0, which is one below n1: a rotation, or both are lowered.
+fn climb_past(
+    s: &mut [u64],
+    cap: u64,
+    d: u64,
+    p0: u64,
+    p1: u64,
+    s0: u64,
+    rank0: u64,
+    rank1: u64,
+    rs: u64,
+) -> Climbed
+    requires { ⌜ Room (now s) cap ⌝ }
+    requires { ⌜ d ≤ 1 ⌝ }
+    requires { ⌜ p1 < cap ⌝ }
+    requires { ⌜ s0 < cap ⌝ }
+    requires { ⌜ rank0 < 64 ⌝ }
+    ensures { λ r. ⌜ (now (s .exit), r) ≡ climbPast (now (s .entry)) cap d p0 p1 s0 rank0 rank1 rs ⌝ }
+    ensures { λ r. ⌜ Standing cap r ⌝ }
+{
+    let a = words::field(s, cap, s0, LEFT + d);
+    let b = words::field(s, cap, s0, RIGHT - d);
+    let ra = tree::rank_of(s, cap, a);
+    let rb = tree::rank_of(s, cap, b);
+    let p2 = words::field(s, cap, p1, BACK);
+    if 64 <= ra {
+        return Climbed::NotSound;
+    }
+    if 64 <= rb {
+        return Climbed::NotSound;
+    }
+    if rb + 1 == rs {
+        turns::turn_once(s, cap, d, p0, p1, p2, s0, a, b, ra, rank1);
+        return Climbed::Done;
+    }
+    if ra + 2 == rs {
+        return lower_both(s, cap, p1, s0, rank0);
+    }
+    if cap <= a {
+        return Climbed::NotSound;
+    }
+    turns::turn_twice(s, cap, d, p0, p1, p2, s0, a, b, ra, rank1);
+    Climbed::Done
+}
+
+// The turn where n1 is three above n0: by the rank of its sibling s0.
+fn climb_at(
+    s: &mut [u64],
+    cap: u64,
+    d: u64,
+    p0: u64,
+    p1: u64,
+    s0: u64,
+    rank0: u64,
+    rank1: u64,
+) -> Climbed
+    requires { ⌜ Room (now s) cap ⌝ }
+    requires { ⌜ d ≤ 1 ⌝ }
+    requires { ⌜ p1 < cap ⌝ }
+    requires { ⌜ s0 < cap ⌝ }
+    requires { ⌜ rank0 < 64 ⌝ }
+    ensures { λ r. ⌜ (now (s .exit), r) ≡ climbAt (now (s .entry)) cap d p0 p1 s0 rank0 rank1 ⌝ }
+    ensures { λ r. ⌜ Standing cap r ⌝ }
+{
+    let rs = words::field(s, cap, s0, RANK);
+    if 64 <= rs {
+        return Climbed::NotSound;
+    }
+    if rs + 2 == rank1 {
+        return lower_one(s, cap, p1, rs + 1);
+    }
+    climb_past(s, cap, d, p0, p1, s0, rank0, rank1, rs)
+}
+
+// One turn at n1, whose child n0 on the side d lost a rank.
+fn climb_turn(s: &mut [u64], cap: u64, p1: u64, d: u64) -> Climbed
+    requires { ⌜ Room (now s) cap ⌝ }
+    requires { ⌜ p1 < cap ⌝ }
+    requires { ⌜ d ≤ 1 ⌝ }
+    ensures { λ r. ⌜ (now (s .exit), r) ≡ climbTurn (now (s .entry)) cap p1 d ⌝ }
+    ensures { λ r. ⌜ Standing cap r ⌝ }
+{
+    let p0 = words::field(s, cap, p1, LEFT + d);
+    let s0 = words::field(s, cap, p1, RIGHT - d);
+    let rank1 = words::field(s, cap, p1, RANK);
+    let rank0 = tree::rank_of(s, cap, p0);
+    if 64 <= rank0 {
+        return Climbed::NotSound;
+    }
+    if rank1 <= rank0 + 2 {
+        return Climbed::Done;
+    }
+    if cap <= s0 {
+        return Climbed::NotSound;
+    }
+    climb_at(s, cap, d, p0, p1, s0, rank0, rank1)
+}
+
+// The climb from a node whose child on that side lost a rank. Whether it ended, as it does on every sound store.
+pub fn climb(s: &mut [u64], cap: u64, start: u64, side: u64) -> bool
+    requires { ⌜ Room (now s) cap ⌝ }
+    requires { ⌜ start < cap ⌝ }
+    requires { ⌜ side ≤ 1 ⌝ }
+    ensures { λ r. ⌜ (now (s .exit), r) ≡ climbFrom 64 (now (s .entry)) cap start side ⌝ }
+{
+    let mut p1 = start;
+    let mut d = side;
+    let mut n: u64 = 0;
+    let ended = 'climb: loop {
+        if 64 <= n {
+            break 'climb false;
+        }
+        let a = climb_turn(s, cap, p1, d);
+        n += 1;
+        match a {
+            Climbed::Up(p2, d2) => {
+                p1 = p2;
+                d = d2;
+            }
+            Climbed::Done => {
+                break 'climb true;
+            }
+            Climbed::NotSound => {
+                break 'climb false;
+            }
+        }
+    };
+    ended
+}
