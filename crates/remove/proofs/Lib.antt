@@ -1,1 +1,2 @@
 pub mod LiftReads
+pub mod TakeReads

@@ -1,5 +1,5 @@
 -- The models of lifting and replacing, with what the code has read and written handed in.
-use Prim.Native.Nat.{ℕ, _<_, _≤_}
+use Prim.Native.Nat.{ℕ}
 use mathlib.Core.Path.{_≡_}
 use mathlib.Core.List.{List}
 use Rattle.arena.specs.Words.{field, LEFT, RIGHT, RANK, BACK}

@@ -1,1 +1,2 @@
 pub mod Lift
+pub mod Take

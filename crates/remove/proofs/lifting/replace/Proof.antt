@@ -1,6 +1,4 @@
-use Rattle.arena.proofs.Paths.{paths}
-use Rattle.remove.proofs.LiftReads.{lift-steps, stand-steps, replace-reads}
-use native.Mathlib.Omega.{arith}
+use Rattle.remove.proofs.LiftReads.{replace-reads}
 use borrow.Author.Needs.{needs}
 use Rattle.remove.proofs.lifting.replace.Statement.{statement}
 use Rattle.remove.proofs.lifting.replace.Tie as tie

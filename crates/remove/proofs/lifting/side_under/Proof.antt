@@ -1,7 +1,5 @@
 use Rattle.arena.proofs.Paths.{paths}
 use Rattle.remove.specs.Lift.{sideUnder}
-use Rattle.remove.proofs.LiftReads.{lift-steps, stand-steps, replace-reads}
-use native.Mathlib.Omega.{arith}
 use borrow.Author.Needs.{needs}
 use Rattle.remove.proofs.lifting.side_under.Statement.{statement}
 use Rattle.remove.proofs.lifting.side_under.Tie as tie

@@ -1,6 +1,4 @@
-use Rattle.arena.proofs.Paths.{paths}
-use Rattle.remove.proofs.LiftReads.{lift-steps, stand-steps, replace-reads}
-use native.Mathlib.Omega.{arith}
+use Rattle.remove.proofs.LiftReads.{stand-steps}
 use borrow.Author.Needs.{needs}
 use Rattle.remove.proofs.lifting.stand.Statement.{statement}
 use Rattle.remove.proofs.lifting.stand.Tie as tie
