@@ -1,2 +1,3 @@
 pub mod LiftReads
 pub mod TakeReads
+pub mod RemoveReads

@@ -1,2 +1,3 @@
 pub mod Lift
 pub mod Take
+pub mod Remove
