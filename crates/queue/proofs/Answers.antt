@@ -10,8 +10,7 @@ use Rattle.handle.specs.declared.Refusal.the-variants as R
 use Rattle.handle.specs.declared.Side.the-variants.{Less, Greater}
 use Rattle.arena.specs.Branch.{ifte}
 use Rattle.arena.specs.Header.{headerOf}
-use Rattle.arena.specs.Entries.{isLive, entryOf}
-use Rattle.arena.specs.declared.entries.Entry.{Entry}
+use Rattle.arena.specs.Entries.{isLive}
 use Rattle.arena.specs.declared.header.Header.{Header}
 use Rattle.arena.specs.declared.header.Header.the-variants.{Passes, Fails}
 use Rattle.arena.proofs.Paths.{no-refusal}
@@ -21,12 +20,10 @@ use Rattle.find.specs.Seeking.{seekModel, FoundIn}
 use Rattle.find.specs.declared.Found.{Found}
 use Rattle.find.specs.declared.Found.the-variants as F
 use Rattle.queue.specs.Header.{onHeader}
-use Rattle.queue.specs.Looking.{handleAt, searched, asRead}
+use Rattle.queue.specs.Looking.{handleAt, searched}
 use Rattle.queue.specs.Moving.{movedTo, cursorAt}
 use Rattle.queue.specs.declared.looking.Searched.{Searched}
 use Rattle.queue.specs.declared.looking.Searched.the-variants as S
-use Rattle.queue.specs.declared.looking.Read.{Read}
-use Rattle.queue.specs.declared.looking.Read.the-variants as D
 use Rattle.queue.specs.declared.cursor.Moved.{Moved}
 use Rattle.queue.specs.declared.cursor.Moved.the-variants as M
 
@@ -62,10 +59,6 @@ moved-unsound p e = rw e
 
 pub moved-by : (x : Moved) (p q : Stepped) → x ≡ movedTo p → p ≡ q → x ≡ movedTo q
 moved-by x p q e f = rw (← f) e
-
--- an entry as an answer
-pub read-as : (e y : Entry) → e ≡ y → D.Entry (e .key) (e .value) ≡ asRead y
-read-as e y f = rw f
 
 -- what the inner search found
 module _ (s : List ℕ) (cap k : ℕ) (r : Found) (is : r ≡ seekModel s cap k) where

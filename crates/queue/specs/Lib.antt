@@ -1,3 +1,5 @@
 pub mod Header
 pub mod Looking
 pub mod Moving
+pub mod Placing
+pub mod Taking

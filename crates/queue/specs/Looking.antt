@@ -2,12 +2,10 @@
 -- Document 01: "Search as a call answers the equal entry's handle, or the last node's handle and the side, or Empty, each with the
 -- count. Reading and removal answer key and value."
 use Prim.Native.Nat.{ℕ}
-use mathlib.Core.Bool.{Bool, true, false}
 use mathlib.Core.List.{List}
 use lib.Dec.{eqb}
 use lib.IntN.{ℤ}
 use Rattle.handle.specs.declared.Handle.{Handle}
-use Rattle.handle.specs.declared.Key.{Key}
 use Rattle.handle.specs.declared.Side.{Side}
 use Rattle.handle.specs.declared.Side.the-variants.{Less, Greater}
 use Rattle.handle.specs.declared.Refusal.the-variants as R
@@ -16,16 +14,15 @@ use Rattle.arena.specs.Words.{field, GENERATION}
 use Rattle.arena.specs.Keys.{stored}
 use Rattle.arena.specs.Header.{headerOf}
 use Rattle.arena.specs.Slots.{handleOf}
-use Rattle.arena.specs.Entries.{isLive, entryOf}
-use Rattle.arena.specs.declared.entries.Entry.{Entry}
 use Rattle.find.specs.Seeking.{seekModel}
 use Rattle.find.specs.declared.Found.{Found}
 use Rattle.find.specs.declared.Found.the-variants as F
 use Rattle.queue.specs.Header.{onHeader}
 use Rattle.queue.specs.declared.looking.Searched.{Searched}
 use Rattle.queue.specs.declared.looking.Searched.the-variants as S
-use Rattle.queue.specs.declared.looking.Read.{Read}
-use Rattle.queue.specs.declared.looking.Read.the-variants as D
+use Rattle.remove.specs.Remove.{readBy}
+use Rattle.remove.specs.declared.reading.Reading.{Reading}
+use Rattle.remove.specs.declared.reading.Reading.the-variants as D
 
 -- the handle of the slot p
 unfoldable pub handleAt : List ℕ → ℕ → ℕ → Handle
@@ -47,11 +44,5 @@ searched s cap k = asSearched s cap (seekModel s cap k)
 unfoldable pub searchCall : List ℕ → ℤ → Searched
 searchCall s key = onHeader (headerOf s) (λ cap. searched s cap (stored key)) (S.Refused R.NotSound)
 
-abbrev pub asRead : Entry → Read
-asRead e = D.Entry (e .key) (e .value)
-
-unfoldable pub readEntry : List ℕ → ℕ → Handle → Read
-readEntry s cap h = ifte (isLive s cap h) (asRead (entryOf s cap (h .slot .0))) (D.Refused R.InvalidPtr)
-
-unfoldable pub readCall : List ℕ → Handle → Read
-readCall s h = onHeader (headerOf s) (λ cap. readEntry s cap h) (D.Refused R.NotSound)
+unfoldable pub readCall : List ℕ → Handle → Reading
+readCall s h = onHeader (headerOf s) (λ cap. readBy s cap h) (D.Refused R.NotSound)

@@ -2,9 +2,8 @@
 // From the Rust: find_similar_key of ord/find.rs, and reading by pointer.
 ghost use mathlib.Core.Path.{_≡_};
 ghost use Rattle.arena.specs.Words.{Room};
-ghost use Rattle.queue.specs.Looking.{searched, searchCall, handleAt, readEntry, readCall};
+ghost use Rattle.queue.specs.Looking.{searched, searchCall, handleAt, readCall};
 ghost use Prim.Native.Nat.{_<_, _≤_};
-use arena::entries;
 use arena::header;
 use arena::header::Header;
 use arena::keys;
@@ -17,6 +16,8 @@ use handle::Key;
 use handle::Refusal;
 use handle::Side;
 use handle::Slot;
+use remove::reading;
+use remove::reading::Reading;
 
 // What a search answers: the entry with an equal key, or the last one looked at and the side of it on which the key lies. The
 // number is how many entries were looked at.
@@ -24,12 +25,6 @@ pub enum Searched {
     Equal(Handle, u64),
     Beside(Handle, Side, u64),
     Empty,
-    Refused(Refusal),
-}
-
-// What reading answers: key and value.
-pub enum Read {
-    Entry(Key, u64),
     Refused(Refusal),
 }
 
@@ -83,29 +78,17 @@ pub fn search(s: &[u64], key: Key) -> Searched
     }
 }
 
-fn read_in(s: &[u64], cap: u64, h: Handle) -> Read
-    requires { ⌜ Room (now s) cap ⌝ }
-    ensures { λ r. ⌜ r ≡ readEntry (now (s .entry)) cap h ⌝ }
-{
-    if entries::live(s, cap, h) {
-        let e = entries::read_entry(s, cap, h.slot.0);
-        let key = e.key;
-        let value = e.value;
-        return Read::Entry(key, value);
-    }
-    Read::Refused(Refusal::InvalidPtr)
-}
-
-pub fn read_by(s: &[u64], h: Handle) -> Read
+// The key and the value of the entry that h names.
+pub fn read(s: &[u64], h: Handle) -> Reading
     ensures { λ r. ⌜ r ≡ readCall (now (s .entry)) h ⌝ }
 {
     let t = header::test(s);
     match t {
         Header::Passes(cap) => {
-            return read_in(s, cap, h);
+            return reading::read(s, cap, h);
         }
         Header::Fails => {
-            return Read::Refused(Refusal::NotSound);
+            return Reading::Refused(Refusal::NotSound);
         }
     }
 }

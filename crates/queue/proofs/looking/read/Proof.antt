@@ -2,8 +2,8 @@ use Rattle.arena.proofs.Answers.{passes-room}
 use Rattle.queue.specs.Looking.{readCall}
 use Rattle.queue.proofs.Answers.{on-passes, on-fails}
 use borrow.Author.Needs.{needs}
-use Rattle.queue.proofs.looking.read_by.Statement.{statement}
-use Rattle.queue.proofs.looking.read_by.Tie as tie
+use Rattle.queue.proofs.looking.read.Statement.{statement}
+use Rattle.queue.proofs.looking.read.Tie as tie
 
 test-requires : tie.Need-test-requires
 test-requires c κs = search needs
@@ -11,9 +11,9 @@ test-requires c κs = search needs
 enum-known-t : tie.Need-enum-known-t
 enum-known-t c = search needs
 
-read-in-requires : tie.Need-read-in-requires
+read-requires : tie.Need-read-requires
 unfolding readCall
-read-in-requires c κs = search (on-passes, on-fails, passes-room)
+read-requires c κs = search (on-passes, on-fails, passes-room)
 
 returns : tie.Need-returns
 unfolding readCall
@@ -26,6 +26,6 @@ returns-2 : tie.Need-returns-2
 unfolding readCall
 returns-2 c = search (on-passes, on-fails, passes-room)
 
-pub read-by-spec : {M : Type 1} → statement M
-read-by-spec =
-    tie.close (tie.spec test-requires enum-known-t read-in-requires returns enum-told returns-2)
+pub read-spec : {M : Type 1} → statement M
+read-spec =
+    tie.close (tie.spec test-requires enum-known-t read-requires returns enum-told returns-2)

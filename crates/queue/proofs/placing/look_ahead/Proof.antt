@@ -1,0 +1,32 @@
+use Rattle.arena.proofs.Answers.{passes-room}
+use Rattle.queue.specs.Placing.{aheadCall}
+use Rattle.queue.proofs.Answers.{on-passes, on-fails}
+use borrow.Author.Needs.{needs}
+use Rattle.queue.proofs.placing.look_ahead.Statement.{statement}
+use Rattle.queue.proofs.placing.look_ahead.Tie as tie
+
+test-requires : tie.Need-test-requires
+test-requires c κs = search needs
+
+enum-known-t : tie.Need-enum-known-t
+enum-known-t c = search needs
+
+ahead-normal-requires : tie.Need-ahead-normal-requires
+unfolding aheadCall
+ahead-normal-requires c κs = search (on-passes, on-fails, passes-room)
+
+returns : tie.Need-returns
+unfolding aheadCall
+returns c = search (on-passes, on-fails, passes-room)
+
+enum-told : tie.Need-enum-told
+enum-told c = search needs
+
+returns-2 : tie.Need-returns-2
+unfolding aheadCall
+returns-2 c = search (on-passes, on-fails, passes-room)
+
+pub look-ahead-spec : {M : Type 1} → statement M
+look-ahead-spec =
+    tie.close
+    (tie.spec test-requires enum-known-t ahead-normal-requires returns enum-told returns-2)

@@ -1,0 +1,114 @@
+// Laying out, the three kinds of insertion, and the look-ahead of each.
+// From the Rust: OrdInsertKind and the entry of ord/insert.rs.
+ghost use mathlib.Core.Path.{_≡_};
+ghost use Rattle.arena.specs.Laying.{layOut};
+ghost use Rattle.queue.specs.Placing.{insertCall, emptyCall, manualCall, aheadCall, aheadEmptyCall, aheadManualCall};
+use arena::header;
+use arena::header::Header;
+use arena::laying;
+use arena::laying::LaidOut;
+use handle::Handle;
+use handle::Key;
+use handle::Refusal;
+use handle::Side;
+use insert::ahead;
+use insert::ahead::Ahead;
+use insert::place;
+use insert::place::Inserted;
+
+// Makes an empty queue of a lent store, whatever it held.
+pub fn lay_out(s: &mut [u64], capacity: u64, top: u64) -> LaidOut
+    ensures { λ r. ⌜ (now (s .exit), r) ≡ layOut (now (s .entry)) capacity top ⌝ }
+{
+    laying::lay_out(s, capacity, top)
+}
+
+// Normal insertion: by the key's place in the order; an equal key replaces the value.
+pub fn insert(s: &mut [u64], key: Key, value: u64) -> Inserted
+    ensures { λ r. ⌜ (now (s .exit), r) ≡ insertCall (now (s .entry)) (key .0) value ⌝ }
+{
+    let t = header::test(s);
+    match t {
+        Header::Passes(cap) => {
+            return place::insert_normal(s, cap, key, value);
+        }
+        Header::Fails => {
+            return Inserted::Refused(Refusal::NotSound);
+        }
+    }
+}
+
+// Insertion into an empty queue only.
+pub fn insert_empty(s: &mut [u64], key: Key, value: u64) -> Inserted
+    ensures { λ r. ⌜ (now (s .exit), r) ≡ emptyCall (now (s .entry)) (key .0) value ⌝ }
+{
+    let t = header::test(s);
+    match t {
+        Header::Passes(cap) => {
+            return place::insert_empty(s, cap, key, value);
+        }
+        Header::Fails => {
+            return Inserted::Refused(Refusal::NotSound);
+        }
+    }
+}
+
+// Insertion beside the entry that h names, on the given side, or in its place.
+pub fn insert_manual(s: &mut [u64], h: Handle, side: Side, key: Key, value: u64) -> Inserted
+    ensures { λ r. ⌜ (now (s .exit), r) ≡ manualCall (now (s .entry)) h side (key .0) value ⌝ }
+{
+    let t = header::test(s);
+    match t {
+        Header::Passes(cap) => {
+            return place::insert_manual(s, cap, h, side, key, value);
+        }
+        Header::Fails => {
+            return Inserted::Refused(Refusal::NotSound);
+        }
+    }
+}
+
+// What `insert` would answer next, with nothing changed.
+pub fn look_ahead(s: &[u64], key: Key) -> Ahead
+    ensures { λ r. ⌜ r ≡ aheadCall (now (s .entry)) (key .0) ⌝ }
+{
+    let t = header::test(s);
+    match t {
+        Header::Passes(cap) => {
+            return ahead::ahead_normal(s, cap, key);
+        }
+        Header::Fails => {
+            return Ahead::Refused(Refusal::NotSound);
+        }
+    }
+}
+
+// What `insert_empty` would answer next.
+pub fn look_ahead_empty(s: &[u64]) -> Ahead
+    ensures { λ r. ⌜ r ≡ aheadEmptyCall (now (s .entry)) ⌝ }
+{
+    let t = header::test(s);
+    match t {
+        Header::Passes(cap) => {
+            return ahead::ahead_empty(s, cap);
+        }
+        Header::Fails => {
+            return Ahead::Refused(Refusal::NotSound);
+        }
+    }
+}
+
+// What `insert_manual` would answer next.
+pub fn look_ahead_manual(s: &[u64], h: Handle, side: Side, key: Key) -> Ahead
+    ensures { λ r. ⌜ r ≡ aheadManualCall (now (s .entry)) h side (key .0) ⌝ }
+{
+    let t = header::test(s);
+    match t {
+        Header::Passes(cap) => {
+            return ahead::ahead_manual(s, cap, h, side, key);
+        }
+        Header::Fails => {
+            return Ahead::Refused(Refusal::NotSound);
+        }
+    }
+}
