@@ -1,2 +1,4 @@
 pub mod Climbs
 pub mod Fixes
+pub mod Keeps
+pub mod Laws
