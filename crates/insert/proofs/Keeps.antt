@@ -4,10 +4,12 @@ use mathlib.Core.Path.{_≡_, refl, sym, _∙_}
 use mathlib.Core.Bool.{Bool, true, false}
 use mathlib.Core.List.{List}
 use native.Mathlib.Omega.{arith}
+use lib.Dec.{ltb, leb}
 use lib.IntN.{ℤ}
 use borrow.Author.Tests.{ltb-false, leb-false}
+use Rattle.arena.specs.Branch.{ifte}
 use Rattle.arena.specs.Entries.{entryPut}
-use Rattle.arena.specs.Slots.{FoundIn, foundAt, peekFrom, peekSlot, popped, takenAs, TakenIn, takeSlot}
+use Rattle.arena.specs.Slots.{handleOf, FoundIn, foundAt, peekFrom, peekSlot, popped, takenAs, TakenIn, takeSlot}
 use Rattle.arena.specs.Words.{headWords, fields, field, put, head, putHead, KEY, GENERATION, VALUE, STACK, HEIGHT, FIRST, LAST, ROOT}
 use Rattle.arena.specs.declared.slots.Taken.{Taken}
 use Rattle.arena.specs.declared.slots.Taken as T
@@ -75,12 +77,18 @@ entry-within s cap i key value hi =
     within-trans _ _ _ _ (put-within _ _ _ KEY _ hi (omega arith) (λ e. omega arith)) (put-within _ _ _ VALUE _ hi (omega arith) (λ e. omega arith))
 
 -- the slot that would be taken lies in the store, on any words
+found-well : (s : List ℕ) (cap i : ℕ) → 1 ≤ head s HEIGHT → head s HEIGHT ≤ cap → FoundIn s cap (foundAt s cap i)
+unfolding foundAt
+found-well s cap i l m =
+    either (FoundIn s cap) (leb cap i) T.the-variants.NotSound (T.the-variants.At (handleOf i (field s cap i GENERATION))) (λ g. tt) (λ g. (leb-false cap i g, l, m))
+
 pub peek-in : (s : List ℕ) (cap : ℕ) → FoundIn s cap (peekSlot s cap)
-unfolding peekSlot peekFrom foundAt
+unfolding peekSlot peekFrom
 peek-in s cap =
-    either (FoundIn s cap) _ _ _ (λ e. tt)
-    (λ e. either (FoundIn s cap) _ _ _ (λ f. tt)
-    (λ f. either (FoundIn s cap) _ _ _ (λ g. tt) (λ g. (leb-false cap _ g, ltb-false _ 1 e, ltb-false cap _ f))))
+    let h = head s HEIGHT in
+    let x = foundAt s cap (field s cap (h - 1) STACK) in
+    either (FoundIn s cap) (ltb h 1) T.the-variants.Full (ifte (ltb cap h) T.the-variants.NotSound x) (λ e. tt)
+    (λ e. either (FoundIn s cap) (ltb cap h) T.the-variants.NotSound x (λ f. tt) (λ f. found-well s cap _ (ltb-false h 1 e) (ltb-false cap h f)))
 
 abbrev pub TakenWell : List ℕ → ℕ → List ℕ × Taken → Type 0
 TakenWell s cap x = Within s (x .0) cap × TakenIn cap (x .1)

@@ -23,6 +23,8 @@ use Rattle.insert.specs.declared.kinds.Prepared.{Prepared}
 use Rattle.insert.specs.declared.kinds.Prepared.the-variants.{Alone, Beside, Replace, Fail, NotSound}
 use Rattle.insert.specs.declared.place.Inserted.{Inserted}
 use Rattle.insert.specs.declared.place.Inserted.the-variants.{New, Replacing, Refused}
+use Rattle.insert.specs.declared.ahead.Ahead.{Ahead}
+use Rattle.insert.specs.declared.ahead.Ahead as A
 
 -- the slot i as the whole queue
 unfoldable pub standAlone : List ℕ → ℕ → ℕ → ℤ → ℕ → List ℕ
@@ -77,3 +79,9 @@ insertEmpty s cap key value = applied s cap (preparedEmpty s) key value
 
 unfoldable pub insertManual : List ℕ → ℕ → Handle → Side → ℤ → ℕ → List ℕ × Inserted
 insertManual s cap h side key value = applied s cap (preparedManual s cap h side (stored key)) key value
+
+-- what a look-ahead says of an answer
+abbrev pub asAhead : Inserted → Ahead
+asAhead (New h) = A.the-variants.New h
+asAhead (Replacing h old) = A.the-variants.Replacing h
+asAhead (Refused r) = A.the-variants.Refused r
