@@ -65,7 +65,7 @@ head-within s cap h v lo hi =
       long = length-putHead s h v;
       heads = λ g hg a b c d. head-other s h v hh g (λ e. off g a b c d (rw e lo) (rw e hi));
       generations = λ j hj. field-putHead s h v hh cap j GENERATION hj (omega arith);
-      rest = rest-putHead s h v hh cap;
+      rest = λ k hk. rest-putHead s h v hh k (omega arith);
     }
   where
     off : (g : ℕ) → (g ≡ HEIGHT → ⊥) → (g ≡ FIRST → ⊥) → (g ≡ LAST → ⊥) → (g ≡ ROOT → ⊥) → HEIGHT ≤ g → g ≤ ROOT → ⊥

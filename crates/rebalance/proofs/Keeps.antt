@@ -49,7 +49,7 @@ only-root s cap v =
       long = length-putHead s ROOT v;
       slots = λ j g hj hg l r n b. field-putHead s ROOT v (omega arith) cap j g hj hg;
       heads = λ h hh m. head-other s ROOT v (omega arith) h m;
-      rest = rest-putHead s ROOT v (omega arith) cap;
+      rest = λ k hk. rest-putHead s ROOT v (omega arith) k (omega arith);
     }
 
 pub side-small : (s : List ℕ) (cap p c : ℕ) → sideOf s cap p c ≤ 1
