@@ -1,4 +1,5 @@
 pub mod Header
+pub mod Promises
 pub mod Looking
 pub mod Moving
 pub mod Placing

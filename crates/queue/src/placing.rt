@@ -2,6 +2,7 @@
 // From the Rust: OrdInsertKind and the entry of ord/insert.rs.
 ghost use mathlib.Core.Path.{_≡_};
 ghost use Rattle.arena.specs.Laying.{layOut};
+ghost use Rattle.queue.specs.Promises.{Looks, Writes};
 ghost use Rattle.queue.specs.Placing.{insertCall, emptyCall, manualCall, aheadCall, aheadEmptyCall, aheadManualCall};
 use arena::header;
 use arena::header::Header;
@@ -25,7 +26,7 @@ pub fn lay_out(s: &mut [u64], capacity: u64, top: u64) -> LaidOut
 
 // Normal insertion: by the key's place in the order; an equal key replaces the value.
 pub fn insert(s: &mut [u64], key: Key, value: u64) -> Inserted
-    ensures { λ r. ⌜ (now (s .exit), r) ≡ insertCall (now (s .entry)) (key .0) value ⌝ }
+    ensures { λ r. ⌜ Writes (Inserted.Refused Refusal.NotSound) (insertCall (now (s .entry)) (key .0) value) (now (s .entry)) (now (s .exit)) r ⌝ }
 {
     let t = header::test(s);
     match t {
@@ -40,7 +41,7 @@ pub fn insert(s: &mut [u64], key: Key, value: u64) -> Inserted
 
 // Insertion into an empty queue only.
 pub fn insert_empty(s: &mut [u64], key: Key, value: u64) -> Inserted
-    ensures { λ r. ⌜ (now (s .exit), r) ≡ emptyCall (now (s .entry)) (key .0) value ⌝ }
+    ensures { λ r. ⌜ Writes (Inserted.Refused Refusal.NotSound) (emptyCall (now (s .entry)) (key .0) value) (now (s .entry)) (now (s .exit)) r ⌝ }
 {
     let t = header::test(s);
     match t {
@@ -55,7 +56,7 @@ pub fn insert_empty(s: &mut [u64], key: Key, value: u64) -> Inserted
 
 // Insertion beside the entry that h names, on the given side, or in its place.
 pub fn insert_manual(s: &mut [u64], h: Handle, side: Side, key: Key, value: u64) -> Inserted
-    ensures { λ r. ⌜ (now (s .exit), r) ≡ manualCall (now (s .entry)) h side (key .0) value ⌝ }
+    ensures { λ r. ⌜ Writes (Inserted.Refused Refusal.NotSound) (manualCall (now (s .entry)) h side (key .0) value) (now (s .entry)) (now (s .exit)) r ⌝ }
 {
     let t = header::test(s);
     match t {
@@ -70,7 +71,7 @@ pub fn insert_manual(s: &mut [u64], h: Handle, side: Side, key: Key, value: u64)
 
 // What `insert` would answer next, with nothing changed.
 pub fn look_ahead(s: &[u64], key: Key) -> Ahead
-    ensures { λ r. ⌜ r ≡ aheadCall (now (s .entry)) (key .0) ⌝ }
+    ensures { λ r. ⌜ Looks (Ahead.Refused Refusal.NotSound) (aheadCall (now (s .entry)) (key .0)) (now (s .entry)) r ⌝ }
 {
     let t = header::test(s);
     match t {
@@ -85,7 +86,7 @@ pub fn look_ahead(s: &[u64], key: Key) -> Ahead
 
 // What `insert_empty` would answer next.
 pub fn look_ahead_empty(s: &[u64]) -> Ahead
-    ensures { λ r. ⌜ r ≡ aheadEmptyCall (now (s .entry)) ⌝ }
+    ensures { λ r. ⌜ Looks (Ahead.Refused Refusal.NotSound) (aheadEmptyCall (now (s .entry))) (now (s .entry)) r ⌝ }
 {
     let t = header::test(s);
     match t {
@@ -100,7 +101,7 @@ pub fn look_ahead_empty(s: &[u64]) -> Ahead
 
 // What `insert_manual` would answer next.
 pub fn look_ahead_manual(s: &[u64], h: Handle, side: Side, key: Key) -> Ahead
-    ensures { λ r. ⌜ r ≡ aheadManualCall (now (s .entry)) h side (key .0) ⌝ }
+    ensures { λ r. ⌜ Looks (Ahead.Refused Refusal.NotSound) (aheadManualCall (now (s .entry)) h side (key .0)) (now (s .entry)) r ⌝ }
 {
     let t = header::test(s);
     match t {

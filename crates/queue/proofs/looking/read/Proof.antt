@@ -1,6 +1,7 @@
 use Rattle.arena.proofs.Answers.{passes-room}
 use Rattle.queue.specs.Looking.{readCall}
 use Rattle.queue.proofs.Answers.{on-passes, on-fails}
+use Rattle.queue.proofs.Promised.{read-looks}
 use borrow.Author.Needs.{needs}
 use Rattle.queue.proofs.looking.read.Statement.{statement}
 use Rattle.queue.proofs.looking.read.Tie as tie
@@ -17,14 +18,14 @@ read-requires c κs = search (on-passes, on-fails, passes-room)
 
 returns : tie.Need-returns
 unfolding readCall
-returns c = search (on-passes, on-fails, passes-room)
+returns c = search (read-looks, on-passes, on-fails, passes-room)
 
 enum-told : tie.Need-enum-told
 enum-told c = search needs
 
 returns-2 : tie.Need-returns-2
 unfolding readCall
-returns-2 c = search (on-passes, on-fails, passes-room)
+returns-2 c = search (read-looks, on-passes, on-fails, passes-room)
 
 pub read-spec : {M : Type 1} → statement M
 read-spec =

@@ -1,6 +1,7 @@
 use Rattle.arena.proofs.Answers.{passes-room}
 use Rattle.queue.specs.Looking.{searchCall}
 use Rattle.queue.proofs.Answers.{on-passes, on-fails, searched-key}
+use Rattle.queue.proofs.Promised.{search-looks}
 use borrow.Author.Needs.{needs}
 use Rattle.queue.proofs.looking.search.Statement.{statement}
 use Rattle.queue.proofs.looking.search.Tie as tie
@@ -16,18 +17,18 @@ stored-key-requires c κs = search needs
 
 search-in-requires : tie.Need-search-in-requires
 unfolding searchCall
-search-in-requires c κs = search (on-passes, on-fails, passes-room, searched-key)
+search-in-requires c κs = search (search-looks, on-passes, on-fails, passes-room, searched-key)
 
 returns : tie.Need-returns
 unfolding searchCall
-returns c = search (on-passes, on-fails, passes-room, searched-key)
+returns c = search (search-looks, on-passes, on-fails, passes-room, searched-key)
 
 enum-told : tie.Need-enum-told
 enum-told c = search needs
 
 returns-2 : tie.Need-returns-2
 unfolding searchCall
-returns-2 c = search (on-passes, on-fails, passes-room, searched-key)
+returns-2 c = search (search-looks, on-passes, on-fails, passes-room, searched-key)
 
 pub search-spec : {M : Type 1} → statement M
 search-spec =

@@ -1,6 +1,7 @@
 use Rattle.arena.proofs.Answers.{passes-room}
 use Rattle.queue.specs.Placing.{emptyCall}
 use Rattle.queue.proofs.Answers.{on-passes, on-fails}
+use Rattle.queue.proofs.Promised.{empty-writes}
 use borrow.Author.Needs.{needs}
 use Rattle.queue.proofs.placing.insert_empty.Statement.{statement}
 use Rattle.queue.proofs.placing.insert_empty.Tie as tie
@@ -20,7 +21,7 @@ same-length c = search needs
 
 returns : tie.Need-returns
 unfolding emptyCall
-returns c = search (on-passes, on-fails, passes-room)
+returns c = search (empty-writes, on-passes, on-fails, passes-room)
 
 enum-told : tie.Need-enum-told
 enum-told c = search needs
@@ -30,7 +31,7 @@ same-length-2 c = search needs
 
 returns-2 : tie.Need-returns-2
 unfolding emptyCall
-returns-2 c = search (on-passes, on-fails, passes-room)
+returns-2 c = search (empty-writes, on-passes, on-fails, passes-room)
 
 pub insert-empty-spec : {M : Type 1} → statement M
 insert-empty-spec =

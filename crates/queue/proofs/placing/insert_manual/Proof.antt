@@ -1,6 +1,7 @@
 use Rattle.arena.proofs.Answers.{passes-room}
 use Rattle.queue.specs.Placing.{manualCall}
 use Rattle.queue.proofs.Answers.{on-passes, on-fails}
+use Rattle.queue.proofs.Promised.{manual-writes}
 use borrow.Author.Needs.{needs}
 use Rattle.queue.proofs.placing.insert_manual.Statement.{statement}
 use Rattle.queue.proofs.placing.insert_manual.Tie as tie
@@ -20,7 +21,7 @@ same-length c = search needs
 
 returns : tie.Need-returns
 unfolding manualCall
-returns c = search (on-passes, on-fails, passes-room)
+returns c = search (manual-writes, on-passes, on-fails, passes-room)
 
 enum-told : tie.Need-enum-told
 enum-told c = search needs
@@ -30,7 +31,7 @@ same-length-2 c = search needs
 
 returns-2 : tie.Need-returns-2
 unfolding manualCall
-returns-2 c = search (on-passes, on-fails, passes-room)
+returns-2 c = search (manual-writes, on-passes, on-fails, passes-room)
 
 pub insert-manual-spec : {M : Type 1} → statement M
 insert-manual-spec =

@@ -1,6 +1,7 @@
 use Rattle.arena.proofs.Answers.{passes-room}
 use Rattle.queue.specs.Placing.{aheadEmptyCall}
 use Rattle.queue.proofs.Answers.{on-passes, on-fails}
+use Rattle.queue.proofs.Promised.{ahead-empty-looks}
 use borrow.Author.Needs.{needs}
 use Rattle.queue.proofs.placing.look_ahead_empty.Statement.{statement}
 use Rattle.queue.proofs.placing.look_ahead_empty.Tie as tie
@@ -17,14 +18,14 @@ ahead-empty-requires c κs = search (on-passes, on-fails, passes-room)
 
 returns : tie.Need-returns
 unfolding aheadEmptyCall
-returns c = search (on-passes, on-fails, passes-room)
+returns c = search (ahead-empty-looks, on-passes, on-fails, passes-room)
 
 enum-told : tie.Need-enum-told
 enum-told c = search needs
 
 returns-2 : tie.Need-returns-2
 unfolding aheadEmptyCall
-returns-2 c = search (on-passes, on-fails, passes-room)
+returns-2 c = search (ahead-empty-looks, on-passes, on-fails, passes-room)
 
 pub look-ahead-empty-spec : {M : Type 1} → statement M
 look-ahead-empty-spec =

@@ -1,6 +1,7 @@
 use Rattle.arena.proofs.Answers.{passes-room}
 use Rattle.queue.specs.Placing.{aheadManualCall}
 use Rattle.queue.proofs.Answers.{on-passes, on-fails}
+use Rattle.queue.proofs.Promised.{ahead-manual-looks}
 use borrow.Author.Needs.{needs}
 use Rattle.queue.proofs.placing.look_ahead_manual.Statement.{statement}
 use Rattle.queue.proofs.placing.look_ahead_manual.Tie as tie
@@ -17,14 +18,14 @@ ahead-manual-requires c κs = search (on-passes, on-fails, passes-room)
 
 returns : tie.Need-returns
 unfolding aheadManualCall
-returns c = search (on-passes, on-fails, passes-room)
+returns c = search (ahead-manual-looks, on-passes, on-fails, passes-room)
 
 enum-told : tie.Need-enum-told
 enum-told c = search needs
 
 returns-2 : tie.Need-returns-2
 unfolding aheadManualCall
-returns-2 c = search (on-passes, on-fails, passes-room)
+returns-2 c = search (ahead-manual-looks, on-passes, on-fails, passes-room)
 
 pub look-ahead-manual-spec : {M : Type 1} → statement M
 look-ahead-manual-spec =

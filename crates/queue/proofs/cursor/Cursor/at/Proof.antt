@@ -2,6 +2,7 @@ use Rattle.arena.proofs.Answers.{passes-room}
 use Rattle.queue.specs.Moving.{standCall}
 use Rattle.queue.specs.Moving.{standIn}
 use Rattle.queue.proofs.Answers.{on-passes, on-fails, if-live, if-dead}
+use Rattle.queue.proofs.Promised.{stand-looks}
 use borrow.Author.Needs.{needs}
 use Rattle.queue.proofs.cursor.Cursor.at.Statement.{statement}
 use Rattle.queue.proofs.cursor.Cursor.at.Tie as tie
@@ -18,18 +19,18 @@ live-requires c κs = search (on-passes, on-fails, passes-room, if-live, if-dead
 
 returns : tie.Need-returns
 unfolding standCall standIn
-returns c = search (on-passes, on-fails, passes-room, if-live, if-dead)
+returns c = search (stand-looks, on-passes, on-fails, passes-room, if-live, if-dead)
 
 returns-2 : tie.Need-returns-2
 unfolding standCall standIn
-returns-2 c = search (on-passes, on-fails, passes-room, if-live, if-dead)
+returns-2 c = search (stand-looks, on-passes, on-fails, passes-room, if-live, if-dead)
 
 enum-told : tie.Need-enum-told
 enum-told c = search needs
 
 returns-3 : tie.Need-returns-3
 unfolding standCall standIn
-returns-3 c = search (on-passes, on-fails, passes-room, if-live, if-dead)
+returns-3 c = search (stand-looks, on-passes, on-fails, passes-room, if-live, if-dead)
 
 pub at-spec : {M : Type 1} → statement M
 at-spec =

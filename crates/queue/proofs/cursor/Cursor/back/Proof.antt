@@ -1,0 +1,13 @@
+use Rattle.queue.proofs.Promised.{start-looks, step-looks}
+use borrow.Author.Needs.{needs}
+use Rattle.queue.proofs.cursor.Cursor.back.Statement.{statement}
+use Rattle.queue.proofs.cursor.Cursor.back.Tie as tie
+
+step-requires : tie.Need-step-requires
+step-requires c κs = search needs
+
+returns : tie.Need-returns
+returns c = search (start-looks, step-looks)
+
+pub back-spec : {M : Type 1} → statement M
+back-spec = tie.close (tie.spec step-requires returns)
