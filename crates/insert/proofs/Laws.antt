@@ -1,10 +1,10 @@
 -- What holds of every insertion on any words: what it leaves alone, and that its slots and sides can be used.
 use Prim.Native.Nat.{ℕ, _+_, _-_, _<_, _≤_}
-use mathlib.Core.Path.{_≡_, refl}
+use mathlib.Core.Path.{refl}
 use mathlib.Core.Bool.{Bool, true, false}
 use mathlib.Core.List.{List}
 use native.Mathlib.Omega.{arith}
-use lib.Dec.{ltb, leb, eqb}
+use lib.Dec.{leb, eqb}
 use lib.IntN.{ℤ}
 use borrow.Author.Tests.{leb-false}
 use Rattle.handle.specs.Numbers.{noSlot}
@@ -12,7 +12,7 @@ use Rattle.handle.specs.declared.Handle.{Handle}
 use Rattle.handle.specs.declared.Side.{Side}
 use Rattle.handle.specs.declared.Side as S
 use Rattle.arena.specs.Branch.{ifte}
-use Rattle.arena.specs.Entries.{isLive, entryPut}
+use Rattle.arena.specs.Entries.{isLive}
 use Rattle.arena.specs.Keys.{stored}
 use Rattle.arena.specs.Slots.{TakenIn, takeSlot}
 use Rattle.arena.specs.Words.{field, head, put, KEY, LEFT, PREV, VALUE, ROOT}

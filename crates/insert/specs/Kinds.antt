@@ -1,7 +1,7 @@
 -- The kinds of insertion, as functions of the store, for any words.
 -- Document 01, "Placing a strike": Normal, Empty, and Manual with the key looked at.
 use Prim.Native.Nat.{ℕ, _+_, _-_, _<_, _≤_}
-use mathlib.Core.Bool.{Bool, true, false}
+use mathlib.Core.Bool.{Bool}
 use mathlib.Core.List.{List}
 use lib.Dec.{ltb, leb, eqb}
 use Rattle.handle.specs.Numbers.{noSlot}

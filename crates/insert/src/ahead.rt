@@ -2,7 +2,7 @@
 // A caller relies on the equality with specs/Ahead.antt; the store is lent by shared reference.
 // From the Rust: SimpleOrdArenaInsertEntry::ptr and OrdEntryKind (ord/insert.rs).
 ghost use mathlib.Core.Path.{_≡_};
-ghost use Prim.Native.Nat.{_<_, _≤_};
+ghost use Prim.Native.Nat.{_<_};
 ghost use Rattle.arena.specs.Words.{Room, field as fieldOf, GENERATION as GENERATION_OF};
 ghost use Rattle.arena.specs.Slots.{handleOf};
 ghost use Rattle.insert.specs.Kinds.{PreparedIn};

@@ -1,5 +1,5 @@
 -- Writes that touch nothing but the tree: one word, the steps of crate `tree`, and one write after another.
-use Prim.Native.Nat.{ℕ, _+_, _-_, _<_, _≤_}
+use Prim.Native.Nat.{ℕ, _+_, _<_, _≤_}
 use mathlib.Core.Path.{_≡_, refl, _∙_}
 use mathlib.Core.Bool.{Bool, true, false}
 use mathlib.Core.List.{List}
@@ -7,7 +7,7 @@ use native.Mathlib.Omega.{arith}
 use lib.Dec.{eqb}
 use borrow.Author.Tests.{ltb-true}
 use Rattle.arena.specs.Branch.{ifte}
-use Rattle.arena.specs.Words.{headWords, fields, field, put, head, putHead, LEFT, RIGHT, RANK, BACK, ROOT}
+use Rattle.arena.specs.Words.{fields, field, put, head, putHead, LEFT, RIGHT, RANK, BACK, ROOT}
 use Rattle.arena.proofs.Laws.{length-put, length-putHead, field-off, head-put, rest-put, head-other, field-putHead, rest-putHead}
 use Rattle.tree.specs.Links.{sideOf, withBack, withChild, relinked, withNode}
 use Rattle.rebalance.specs.Kept.{TreeOnly}

@@ -4,7 +4,7 @@
 ghost use mathlib.Core.Path.{_≡_};
 ghost use Prim.Native.Nat.{_<_, _≤_};
 ghost use Rattle.arena.specs.Words.{Room};
-ghost use Rattle.rebalance.specs.Ranks.{FixedIn, raisedUp, fixTurn, climbFrom, climbedAbove, rebalanced};
+ghost use Rattle.rebalance.specs.Ranks.{budget, FixedIn, raisedUp, fixTurn, climbFrom, climbedAbove, rebalanced};
 use crate::turns;
 use arena::words;
 use arena::words::BACK;
@@ -26,7 +26,7 @@ pub const BUDGET: u64 = 64;
 fn raise(s: &mut [u64], cap: u64, p2: u64, p3: u64, r1: u64) -> Fixed
     requires { ⌜ Room (now s) cap ⌝ }
     requires { ⌜ p2 < cap ⌝ }
-    requires { ⌜ r1 < 64 ⌝ }
+    requires { ⌜ r1 < budget ⌝ }
     ensures { λ r. ⌜ (now (s .exit), r) ≡ raisedUp (now (s .entry)) cap p2 p3 r1 ⌝ }
     ensures { λ r. ⌜ FixedIn cap r ⌝ }
 {
@@ -82,7 +82,7 @@ fn climb(s: &mut [u64], cap: u64, q0: u64, q1: u64, q2: u64, e01: u64, e12: u64)
     requires { ⌜ q2 < cap ⌝ }
     requires { ⌜ e01 ≤ 1 ⌝ }
     requires { ⌜ e12 ≤ 1 ⌝ }
-    ensures { λ r. ⌜ (now (s .exit), r) ≡ climbFrom 64 (now (s .entry)) cap q0 q1 q2 e01 e12 ⌝ }
+    ensures { λ r. ⌜ (now (s .exit), r) ≡ climbFrom budget (now (s .entry)) cap q0 q1 q2 e01 e12 ⌝ }
 {
     let mut p0 = q0;
     let mut p1 = q1;
