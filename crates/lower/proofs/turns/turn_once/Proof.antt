@@ -22,7 +22,12 @@ same-length : tie.Need-same-length
 same-length c = search needs
 
 returns : tie.Need-returns
-returns c = search once-steps
+returns c =
+    let link = c .before .before in
+    let high = link .before .before .before .before in
+    let low = high .before .before .before .before in
+    let back = low .before .before .before .before in
+    once-steps _ _ _ _ _ _ _ _ _ _ _ _ _ _ _ (back .put-back .ensures) (low .put-node .ensures) (high .put-node2 .ensures) (link .relink .ensures)
 
 pub turn-once-spec : {M : Type 1} → statement M
 turn-once-spec =

@@ -1,3 +1,4 @@
+use mathlib.Core.Path.{refl}
 use Rattle.remove.proofs.LiftReads.{lift-steps}
 use borrow.Author.Needs.{needs}
 use Rattle.remove.proofs.lifting.lift.Statement.{statement}
@@ -22,7 +23,15 @@ same-length : tie.Need-same-length
 same-length c = search needs
 
 returns : tie.Need-returns
-returns c = (search lift-steps, search needs)
+returns c =
+    let back = c .before .before in
+    let put = back .before .before .before .before in
+    let side = put .before .before in
+    let above = side .before .before in
+    let child = above .before .before in (
+      lift-steps _ _ _ _ _ _ _ _ _ (child .only-child .ensures) (above .field .ensures) (side .side-under .ensures .0) (put .put-child .ensures) (back .put-back .ensures) refl refl,
+      search needs,
+    )
 
 pub lift-spec : {M : Type 1} → statement M
 lift-spec =
