@@ -1,2 +1,3 @@
 pub mod ClimbReads
 pub mod ClimbLoop
+pub mod Laws

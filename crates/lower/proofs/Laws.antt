@@ -1,0 +1,107 @@
+-- What the climb leaves alone, for proofs on sound stores and for the promises on any store: all but the tree.
+-- `TreeOnly` and its laws for the steps of crate `tree` are shared with the climb after an insertion.
+use Prim.Native.Nat.{ℕ, zero, suc, _+_, _-_, _<_, _≤_}
+use mathlib.Core.Path.{_≡_}
+use mathlib.Core.Bool.{Bool, true, false}
+use mathlib.Core.List.{List}
+use native.Mathlib.Omega.{arith}
+use lib.Dec.{ltb, leb, eqb}
+use borrow.Author.Tests.{ltb-true, leb-false}
+use Rattle.arena.specs.Words.{field, put, RANK, BACK}
+use Rattle.tree.specs.Links.{sideOf}
+use Rattle.rebalance.specs.Kept.{TreeOnly}
+use Rattle.rebalance.proofs.Keeps.{either, only-refl, only-trans, only-put, side-small, back-only, relinked-only, node-only}
+use Rattle.lower.specs.Turns.{turnOnce, hung, turnTwiceWith, turnTwice}
+use Rattle.lower.specs.Climb.{goUpTo, goUp, Standing, onward, lowerOne, lowerBoth, climbPastWith, climbPast, climbAtWith, climbAt, climbTurnWith, climbTurn, onClimbed, climbFrom}
+use Rattle.lower.specs.declared.climbing.Climbed.{Climbed}
+use Rattle.lower.specs.declared.climbing.Climbed.the-variants.{Done, Up, NotSound}
+
+-- the rotations
+module _ (s : List ℕ) (cap d p0 p1 p2 s0 a b ra rank1 : ℕ) (h1 : p1 < cap) (hs : s0 < cap) (hd : d ≤ 1) where
+  pub once-only : TreeOnly s (turnOnce s cap d p0 p1 p2 s0 a b ra rank1) cap
+  unfolding turnOnce
+  once-only =
+      only-trans _ _ _ _ (back-only _ _ _ _)
+      (only-trans _ _ _ _ (node-only _ _ _ _ _ _ _ _ h1 hd)
+      (only-trans _ _ _ _ (node-only _ _ _ _ _ _ _ _ hs hd) (relinked-only _ _ _ _ _)))
+
+  pub twice-only : a < cap → TreeOnly s (turnTwice s cap d p0 p1 p2 s0 a b ra rank1) cap
+  unfolding turnTwice turnTwiceWith hung
+  twice-only ha =
+      only-trans _ _ _ _ (back-only _ _ _ _)
+      (only-trans _ _ _ _ (back-only _ _ _ _)
+      (only-trans _ _ _ _ (node-only _ _ _ _ _ _ _ _ h1 hd)
+      (only-trans _ _ _ _ (node-only _ _ _ _ _ _ _ _ hs hd)
+      (only-trans _ _ _ _ (node-only _ _ _ _ _ _ _ _ ha hd) (relinked-only _ _ _ _ _)))))
+
+-- a turn touches the tree alone, and its answer can be used
+abbrev pub Turned : List ℕ → ℕ → List ℕ × Climbed → Type 0
+Turned s cap x = TreeOnly s (x .0) cap × Standing cap (x .1)
+
+turned-done : (s t : List ℕ) (cap : ℕ) → TreeOnly s t cap → Turned s cap (t, Done)
+turned-done s t cap o = (o, tt)
+
+turned-bad : (s : List ℕ) (cap : ℕ) → Turned s cap (s, NotSound)
+turned-bad s cap = (only-refl s cap, tt)
+
+pub up-stands : (s : List ℕ) (cap p1 : ℕ) → Standing cap (goUp s cap p1)
+unfolding goUp goUpTo
+up-stands s cap p1 =
+    let p2 = field s cap p1 BACK in
+    either (Standing cap) (ltb p2 cap) (Up p2 (sideOf s cap p2 p1)) Done (λ e. (ltb-true p2 cap e, side-small _ _ _ _)) (λ e. tt)
+
+pub lower-only : (s : List ℕ) (cap p1 rank : ℕ) → p1 < cap → Turned s cap (lowerOne s cap p1 rank)
+unfolding lowerOne onward
+lower-only s cap p1 rank h1 = (only-put s cap p1 RANK rank h1 (omega arith) (omega arith), up-stands _ _ _)
+
+pub both-only : (s : List ℕ) (cap p1 s0 rank0 : ℕ) → p1 < cap → s0 < cap → Turned s cap (lowerBoth s cap p1 s0 rank0)
+unfolding lowerBoth
+both-only s cap p1 s0 rank0 h1 hs =
+    let t = put s cap s0 RANK (rank0 + 1) in
+    let l = lower-only t cap p1 (rank0 + 2) h1 in
+    (only-trans s t _ cap (only-put s cap s0 RANK (rank0 + 1) hs (omega arith) (omega arith)) (l .0), l .1)
+
+module _ (s : List ℕ) (cap d p0 p1 : ℕ) (h1 : p1 < cap) (hd : d ≤ 1) where
+  past-with : (s0 rank0 rank1 rs a b ra rb p2 : ℕ) → s0 < cap → Turned s cap (climbPastWith s cap d p0 p1 s0 rank0 rank1 rs a b ra rb p2)
+  unfolding climbPastWith
+  past-with s0 rank0 rank1 rs a b ra rb p2 hs =
+      either (Turned s cap) (leb 64 ra) _ _ (λ e. turned-bad s cap)
+      (λ e. either (Turned s cap) (leb 64 rb) _ _ (λ f. turned-bad s cap)
+      (λ f. either (Turned s cap) (eqb (rb + 1) rs) _ _ (λ g. turned-done s _ cap (once-only s cap d p0 p1 p2 s0 a b ra rank1 h1 hs hd))
+      (λ g. either (Turned s cap) (eqb (ra + 2) rs) _ _ (λ h. both-only s cap p1 s0 rank0 h1 hs)
+      (λ h. either (Turned s cap) (leb cap a) _ _ (λ k. turned-bad s cap)
+      (λ k. turned-done s _ cap (twice-only s cap d p0 p1 p2 s0 a b ra rank1 h1 hs hd (leb-false cap a k)))))))
+
+  at-with : (s0 rank0 rank1 rs : ℕ) → s0 < cap → Turned s cap (climbAtWith s cap d p0 p1 s0 rank0 rank1 rs)
+  unfolding climbAtWith climbPast
+  at-with s0 rank0 rank1 rs hs =
+      either (Turned s cap) (leb 64 rs) _ _ (λ e. turned-bad s cap)
+      (λ e. either (Turned s cap) (eqb (rs + 2) rank1) _ _ (λ f. lower-only s cap p1 (rs + 1) h1)
+      (λ f. past-with s0 rank0 rank1 rs _ _ _ _ _ hs))
+
+  turn-with : (s0 rank1 rank0 : ℕ) → Turned s cap (climbTurnWith s cap p1 d p0 s0 rank1 rank0)
+  unfolding climbTurnWith climbAt
+  turn-with s0 rank1 rank0 =
+      either (Turned s cap) (leb 64 rank0) _ _ (λ e. turned-bad s cap)
+      (λ e. either (Turned s cap) (leb rank1 (rank0 + 2)) _ _ (λ f. turned-done s s cap (only-refl s cap))
+      (λ f. either (Turned s cap) (leb cap s0) _ _ (λ g. turned-bad s cap)
+      (λ g. at-with s0 rank0 rank1 _ (leb-false cap s0 g))))
+
+pub turn-only : (s : List ℕ) (cap p1 d : ℕ) → p1 < cap → d ≤ 1 → Turned s cap (climbTurn s cap p1 d)
+unfolding climbTurn
+turn-only s cap p1 d h1 hd = turn-with s cap d _ p1 h1 hd _ _ _
+
+-- by a turn's answer: `go` is the climb from there on
+pub on-only : (s t : List ℕ) (cap : ℕ) (a : Climbed) (go : ℕ → ℕ → List ℕ × Bool) → TreeOnly s t cap → Standing cap a
+    → ((p d : ℕ) → p < cap → d ≤ 1 → TreeOnly t (go p d .0) cap) → TreeOnly s (onClimbed a go t .0) cap
+on-only s t cap (Up p d) go o i f = only-trans s t _ cap o (f p d (i .0) (i .1))
+on-only s t cap Done go o i f = o
+on-only s t cap NotSound go o i f = o
+
+pub climb-only : (fuel : ℕ) (s : List ℕ) (cap p1 d : ℕ) → p1 < cap → d ≤ 1 → TreeOnly s (climbFrom fuel s cap p1 d .0) cap
+unfolding climbFrom
+climb-only zero s cap p1 d h1 hd = only-refl s cap
+climb-only (suc fuel) s cap p1 d h1 hd =
+    let x = climbTurn s cap p1 d in
+    let f = turn-only s cap p1 d h1 hd in
+    on-only s (x .0) cap (x .1) _ (f .0) (f .1) (λ p2 d2 h2 e2. climb-only fuel (x .0) cap p2 d2 h2 e2)
