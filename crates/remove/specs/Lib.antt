@@ -1,3 +1,4 @@
 pub mod Lift
 pub mod Take
 pub mod Remove
+pub mod Kept

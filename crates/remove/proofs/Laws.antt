@@ -1,0 +1,78 @@
+-- What taking a node out and removing an entry leave alone, for proofs on sound stores and for the promises on any store.
+use Prim.Native.Nat.{ℕ, _+_, _-_, _<_, _≤_}
+use mathlib.Core.Path.{_≡_, refl, _∙_}
+use mathlib.Core.Bool.{Bool, true, false}
+use mathlib.Core.List.{List}
+use native.Mathlib.Omega.{arith}
+use lib.Dec.{ltb, leb, eqb}
+use borrow.Author.Tests.{ltb-true, leb-false}
+use Rattle.arena.specs.Words.{field, BACK}
+use Rattle.tree.specs.Links.{sideOf}
+use Rattle.rebalance.specs.Kept.{TreeOnly}
+use Rattle.rebalance.proofs.Keeps.{either, only-refl, only-trans, side-small, back-only, child-only, relinked-only, node-only}
+use Rattle.lower.specs.Climb.{lowerOne, climbFrom}
+use Rattle.lower.proofs.Laws.{lower-only, on-only, climb-only}
+use Rattle.remove.specs.Lift.{sideUnder, hungUp, liftWith, liftOut, standing, replaced}
+use Rattle.remove.specs.Take.{isChildless, settleBare, settleAt, replacementOf, filledFrom, filledBy, closedFrom, takeOver, takeOut}
+use Rattle.remove.specs.declared.lifting.Lifted.{Lifted}
+
+-- what was lifted touches the tree alone, and hung on a side
+abbrev pub LiftedWell : List ℕ → ℕ → List ℕ × Lifted → Type 0
+LiftedWell s cap x = TreeOnly s (x .0) cap × (x .1 .side ≤ 1)
+
+pub under-small : (s : List ℕ) (cap q m : ℕ) → sideUnder s cap q m ≤ 1
+unfolding sideUnder
+under-small s cap q m = either (λ d. d ≤ 1) (ltb q cap) (sideOf s cap q m) 0 (λ e. side-small s cap q m) (λ e. omega arith)
+
+pub lift-only : (s : List ℕ) (cap m : ℕ) → LiftedWell s cap (liftOut s cap m)
+unfolding liftOut liftWith hungUp
+lift-only s cap m =
+    let q = field s cap m BACK in
+    (only-trans _ _ _ _ (child-only s cap q (sideUnder s cap q m) _ (under-small s cap q m)) (back-only _ _ _ _), under-small s cap q m)
+
+pub replaced-only : (s : List ℕ) (cap i m : ℕ) → m < cap → TreeOnly s (replaced s cap i m) cap
+unfolding replaced standing
+replaced-only s cap i m hm =
+    only-trans _ _ _ _ (node-only _ _ _ _ _ _ _ _ hm (omega arith))
+    (only-trans _ _ _ _ (back-only _ _ _ _) (only-trans _ _ _ _ (back-only _ _ _ _) (relinked-only _ _ _ _ _)))
+
+-- an answer that touched the tree alone
+abbrev pub Settled : List ℕ → ℕ → List ℕ × Bool → Type 0
+Settled s cap x = TreeOnly s (x .0) cap
+
+pub bare-only : (s : List ℕ) (cap q : ℕ) → q < cap → Settled s cap (settleBare s cap q)
+unfolding settleBare
+bare-only s cap q hq =
+    let x = lowerOne s cap q 1 in
+    let o = lower-only s cap q 1 hq in
+    on-only s (x .0) cap (x .1) _ (o .0) (o .1) (λ p d hp hd. climb-only 64 (x .0) cap p d hp hd)
+
+pub settle-only : (s : List ℕ) (cap q e : ℕ) → e ≤ 1 → Settled s cap (settleAt s cap q e)
+unfolding settleAt
+settle-only s cap q e he =
+    either (Settled s cap) (leb cap q) _ _ (λ f. only-refl s cap)
+    (λ f. either (Settled s cap) (isChildless s cap q) _ _ (λ g. bare-only s cap q (leb-false cap q f))
+    (λ g. climb-only 64 s cap q e (leb-false cap q f) he))
+
+pub filled-only : (s : List ℕ) (cap i m : ℕ) → m < cap → Settled s cap (filledBy s cap i m)
+unfolding filledBy filledFrom
+filled-only s cap i m hm =
+    let x = liftOut s cap m in
+    let o = lift-only s cap m in
+    let t = replaced (x .0) cap i m in
+    let k : TreeOnly s t cap = only-trans s (x .0) t cap (o .0) (replaced-only (x .0) cap i m hm) in
+    either (Settled s cap) (eqb (x .1 .under) i) _ _ (λ e. only-trans s t _ cap k (settle-only t cap m (x .1 .side) (o .1)))
+    (λ e. only-trans s t _ cap k (settle-only t cap (x .1 .under) (x .1 .side) (o .1)))
+
+over-only : (s : List ℕ) (cap i m : ℕ) → Settled s cap (takeOver s cap i m)
+unfolding takeOver
+over-only s cap i m = either (Settled s cap) (leb cap m) _ _ (λ e. only-refl s cap) (λ e. filled-only s cap i m (leb-false cap m e))
+
+-- taking a node out touches the tree alone
+pub take-only : (s : List ℕ) (cap i : ℕ) → Settled s cap (takeOut s cap i)
+unfolding takeOut closedFrom
+take-only s cap i =
+    let x = liftOut s cap i in
+    let o = lift-only s cap i in
+    either (Settled s cap) (isChildless s cap i) _ _ (λ e. only-trans s (x .0) _ cap (o .0) (settle-only (x .0) cap (x .1 .under) (x .1 .side) (o .1)))
+    (λ e. over-only s cap i (replacementOf s cap i))
