@@ -1,20 +1,35 @@
 -- What taking a node out and removing an entry leave alone, for proofs on sound stores and for the promises on any store.
-use Prim.Native.Nat.{ℕ, _+_, _-_, _<_, _≤_}
-use mathlib.Core.Path.{_≡_, refl, _∙_}
+use Prim.Native.Nat.{ℕ, _-_, _<_, _≤_}
+use mathlib.Core.Path.{_≡_, refl, sym}
 use mathlib.Core.Bool.{Bool, true, false}
 use mathlib.Core.List.{List}
 use native.Mathlib.Omega.{arith}
 use lib.Dec.{ltb, leb, eqb}
 use borrow.Author.Tests.{ltb-true, leb-false}
-use Rattle.arena.specs.Words.{field, BACK}
+use Rattle.handle.specs.Numbers.{noSlot}
+use Rattle.handle.specs.declared.Handle.{Handle}
+use Rattle.handle.specs.declared.Refusal.the-variants.{InvalidPtr}
+use Rattle.arena.specs.Words.{field, head, BACK, PREV, NEXT, GENERATION, TOP, HEIGHT}
+use Rattle.arena.specs.Entries.{isLive}
+use Rattle.arena.specs.Slots.{freeWith, freeSlot}
+use Rattle.arena.specs.declared.slots.Freed.{Freed}
+use Rattle.chain.specs.Links.{joined, unlinkSlot}
+use Rattle.chain.proofs.Laws.{joined-only}
 use Rattle.tree.specs.Links.{sideOf}
 use Rattle.rebalance.specs.Kept.{TreeOnly}
 use Rattle.rebalance.proofs.Keeps.{either, only-refl, only-trans, side-small, back-only, child-only, relinked-only, node-only}
-use Rattle.lower.specs.Climb.{lowerOne, climbFrom}
+use Rattle.lower.specs.Climb.{lowerOne}
 use Rattle.lower.proofs.Laws.{lower-only, on-only, climb-only}
 use Rattle.remove.specs.Lift.{sideUnder, hungUp, liftWith, liftOut, standing, replaced}
 use Rattle.remove.specs.Take.{isChildless, settleBare, settleAt, replacementOf, filledFrom, filledBy, closedFrom, takeOver, takeOut}
+use Rattle.remove.specs.Remove.{letGo, removeLive, removeBy, readBy}
+use Rattle.remove.specs.Kept.{OthersKept}
 use Rattle.remove.specs.declared.lifting.Lifted.{Lifted}
+use Rattle.remove.specs.declared.removing.Removed.{Removed}
+use Rattle.remove.specs.declared.removing.Removed as D
+use Rattle.remove.specs.declared.reading.Reading as Q
+use Rattle.remove.proofs.Keeps.{kept-refl, kept-trans, tree-kept, chain-kept, blank-kept, pushed-kept}
+use Rattle.remove.proofs.RemoveReads.{live-low}
 
 -- what was lifted touches the tree alone, and hung on a side
 abbrev pub LiftedWell : List ℕ → ℕ → List ℕ × Lifted → Type 0
@@ -76,3 +91,46 @@ take-only s cap i =
     let o = lift-only s cap i in
     either (Settled s cap) (isChildless s cap i) _ _ (λ e. only-trans s (x .0) _ cap (o .0) (settle-only (x .0) cap (x .1 .under) (x .1 .side) (o .1)))
     (λ e. over-only s cap i (replacementOf s cap i))
+
+-- a slot freed, and an entry removed: every other entry and its handle stay
+abbrev pub FreedWell : List ℕ → ℕ → ℕ → List ℕ × Freed → Type 0
+FreedWell s cap i x = OthersKept s (x .0) cap i
+
+abbrev pub RemovedWell : List ℕ → ℕ → ℕ → List ℕ × Removed → Type 0
+RemovedWell s cap i x = OthersKept s (x .0) cap i
+
+pub free-kept : (s : List ℕ) (cap i : ℕ) → i < cap → FreedWell s cap i (freeSlot s cap i)
+unfolding freeSlot freeWith
+free-kept s cap i hi =
+    either (FreedWell s cap i) (ltb (field s cap i GENERATION) (head s TOP)) _ _
+    (λ e. either (FreedWell s cap i) (ltb (head s HEIGHT) cap) _ _ (λ f. pushed-kept s cap i hi _ _ (ltb-true _ cap f)) (λ f. kept-refl s cap i))
+    (λ e. blank-kept s cap i hi noSlot)
+
+pub let-go-kept : (s : List ℕ) (cap i : ℕ) → i < cap → FreedWell s cap i (letGo s cap i)
+unfolding letGo unlinkSlot
+let-go-kept s cap i hi =
+    let t = joined s cap (field s cap i PREV) (field s cap i NEXT) in
+    kept-trans s t _ cap i (chain-kept s t cap i (joined-only s cap _ _)) (free-kept t cap i hi)
+
+pub live-kept : (s : List ℕ) (cap i : ℕ) → i < cap → RemovedWell s cap i (removeLive s cap i)
+unfolding removeLive
+live-kept s cap i hi =
+    let x = takeOut s cap i in
+    let o : OthersKept s (x .0) cap i = tree-kept s (x .0) cap i (take-only s cap i) in
+    either (RemovedWell s cap i) (x .1) _ _ (λ e. kept-trans s (x .0) _ cap i o (let-go-kept (x .0) cap i hi)) (λ e. o)
+
+module _ (s : List ℕ) (cap : ℕ) (h : Handle) where
+  pub remove-kept : RemovedWell s cap (h .slot .0) (removeBy s cap h)
+  unfolding removeBy
+  remove-kept =
+      either (RemovedWell s cap (h .slot .0)) (isLive s cap h) _ _ (λ e. live-kept s cap (h .slot .0) (live-low s cap h true (sym e) refl))
+      (λ e. kept-refl s cap (h .slot .0))
+
+  -- "Each refusal returns its number alone and changes nothing."
+  pub dead-refused : isLive s cap h ≡ false → removeBy s cap h ≡ (s, D.the-variants.Refused InvalidPtr)
+  unfolding removeBy
+  dead-refused e = rw e
+
+  pub dead-unread : isLive s cap h ≡ false → readBy s cap h ≡ Q.the-variants.Refused InvalidPtr
+  unfolding readBy
+  dead-unread e = rw e

@@ -1,4 +1,5 @@
 pub mod LiftReads
 pub mod TakeReads
 pub mod RemoveReads
+pub mod Keeps
 pub mod Laws
