@@ -14,8 +14,8 @@ use Rattle.arena.specs.declared.slots.Taken.{Taken}
 use Rattle.arena.specs.declared.slots.Taken as T
 use Rattle.arena.proofs.Laws.{length-put, length-putHead, field-off, head-put, rest-put, head-other, field-putHead, rest-putHead}
 use Rattle.chain.specs.Kept.{ChainOnly}
-use Rattle.rebalance.specs.Kept.{TreeOnly}
-use Rattle.rebalance.proofs.Keeps.{either}
+use Rattle.tree.specs.Kept.{TreeOnly}
+use Rattle.tree.proofs.Keeps.{either}
 use Rattle.insert.specs.Kept.{Within}
 
 pub within-refl : (s : List ℕ) (cap : ℕ) → Within s s cap

@@ -24,7 +24,7 @@ use Rattle.find.specs.Seeking.{FoundIn, seekModel}
 use Rattle.find.specs.declared.Found.{Found}
 use Rattle.find.specs.declared.Found as F
 use Rattle.find.proofs.Laws.{found-in}
-use Rattle.rebalance.proofs.Keeps.{either, node-only, child-only}
+use Rattle.tree.proofs.Keeps.{either, node-only, child-only}
 use Rattle.rebalance.proofs.Laws.{rebalanced-only}
 use Rattle.insert.specs.Kept.{Within}
 use Rattle.insert.specs.Kinds.{PreparedIn, asFound, preparedNormal, preparedEmpty, liesOn, preparedEqual, placeBeside, besideNext, preparedBeside, bySide, preparedManual}

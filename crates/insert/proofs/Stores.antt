@@ -10,7 +10,7 @@ use Rattle.arena.specs.Words.{Room, fields, field, KEY, LEFT, RIGHT, RANK, BACK
 use Rattle.arena.proofs.Laws.{length-put, field-same, field-slot, field-off, field-putHead}
 use Rattle.chain.specs.Links.{linkBeside}
 use Rattle.chain.proofs.Laws.{alone-only, between-only}
-use Rattle.rebalance.proofs.Keeps.{node-only, child-only}
+use Rattle.tree.proofs.Keeps.{node-only, child-only}
 use Rattle.rebalance.proofs.Laws.{rebalanced-only}
 use Rattle.insert.specs.Place.{standAlone, hung, hungBelow}
 

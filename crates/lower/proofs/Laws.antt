@@ -8,8 +8,8 @@ use lib.Dec.{ltb, leb, eqb}
 use borrow.Author.Tests.{ltb-true, leb-false}
 use Rattle.arena.specs.Words.{field, put, RANK, BACK}
 use Rattle.tree.specs.Links.{sideOf}
-use Rattle.rebalance.specs.Kept.{TreeOnly}
-use Rattle.rebalance.proofs.Keeps.{either, only-refl, only-trans, only-put, side-small, back-only, relinked-only, node-only}
+use Rattle.tree.specs.Kept.{TreeOnly}
+use Rattle.tree.proofs.Keeps.{either, only-refl, only-trans, only-put, side-small, back-only, relinked-only, node-only}
 use Rattle.lower.specs.Turns.{turnOnce, hung, turnTwiceWith, turnTwice}
 use Rattle.lower.specs.Climb.{goUpTo, goUp, Standing, onward, lowerOne, lowerBoth, climbPastWith, climbPast, climbAtWith, climbAt, climbTurnWith, climbTurn, onClimbed, climbFrom}
 use Rattle.lower.specs.declared.climbing.Climbed.{Climbed}

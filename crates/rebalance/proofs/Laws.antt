@@ -7,12 +7,12 @@ use lib.Dec.{ltb, leb, eqb}
 use borrow.Author.Tests.{ltb-true, leb-false}
 use Rattle.arena.specs.Words.{field, put, RANK, BACK}
 use Rattle.tree.specs.Links.{sideOf}
-use Rattle.rebalance.specs.Kept.{TreeOnly}
+use Rattle.tree.specs.Kept.{TreeOnly}
 use Rattle.rebalance.specs.Turns.{liftedOne, turnedSame, spreadWith, spreadBelow, turnedAcross}
 use Rattle.rebalance.specs.Ranks.{budget, FixedIn, above, raisedUp, fixWith, fixTurn, onFixed, climbFrom, climbedTo, climbedAbove, rebalanced}
 use Rattle.rebalance.specs.declared.ranks.Fixed.{Fixed}
 use Rattle.rebalance.specs.declared.ranks.Fixed.the-variants.{Done, Up, NotSound}
-use Rattle.rebalance.proofs.Keeps.{either, only-refl, only-trans, only-put, side-small, back-only, relinked-only, node-only}
+use Rattle.tree.proofs.Keeps.{either, only-refl, only-trans, only-put, side-small, back-only, relinked-only, node-only}
 
 module _ (s : List ℕ) (cap d p0 p1 p2 p3 : ℕ) (h0 : p0 < cap) (h1 : p1 < cap) (h2 : p2 < cap) (hd : d ≤ 1) where
   pub same-only : (s1 : ℕ) → TreeOnly s (turnedSame s cap d p0 p1 p2 p3 s1) cap

@@ -8,7 +8,7 @@ use Rattle.arena.specs.Laying.{unlinked, blankOf}
 use Rattle.arena.specs.Slots.{pushed}
 use Rattle.arena.proofs.Laws.{length-put, length-putHead, field-slot, field-off, head-put, rest-put, head-other, field-putHead, rest-putHead}
 use Rattle.chain.specs.Kept.{ChainOnly}
-use Rattle.rebalance.specs.Kept.{TreeOnly}
+use Rattle.tree.specs.Kept.{TreeOnly}
 use Rattle.remove.specs.Kept.{OthersKept}
 
 pub kept-refl : (s : List ℕ) (cap i : ℕ) → OthersKept s s cap i
@@ -87,7 +87,7 @@ height-kept s cap i v =
       keys = λ j hj n. field-putHead s HEIGHT v (omega arith) cap j KEY hj (omega arith);
       values = λ j hj n. field-putHead s HEIGHT v (omega arith) cap j VALUE hj (omega arith);
       generations = λ j hj n. field-putHead s HEIGHT v (omega arith) cap j GENERATION hj (omega arith);
-      rest = rest-putHead s HEIGHT v (omega arith) cap;
+      rest = λ k hk. rest-putHead s HEIGHT v (omega arith) k (omega arith);
     }
 
 module _ (s : List ℕ) (cap i : ℕ) (hi : i < cap) where

@@ -16,8 +16,8 @@ use Rattle.arena.specs.declared.slots.Freed.{Freed}
 use Rattle.chain.specs.Links.{joined, unlinkSlot}
 use Rattle.chain.proofs.Laws.{joined-only}
 use Rattle.tree.specs.Links.{sideOf}
-use Rattle.rebalance.specs.Kept.{TreeOnly}
-use Rattle.rebalance.proofs.Keeps.{either, only-refl, only-trans, side-small, back-only, child-only, relinked-only, node-only}
+use Rattle.tree.specs.Kept.{TreeOnly}
+use Rattle.tree.proofs.Keeps.{either, only-refl, only-trans, side-small, back-only, child-only, relinked-only, node-only}
 use Rattle.lower.specs.Climb.{lowerOne}
 use Rattle.lower.proofs.Laws.{lower-only, on-only, climb-only}
 use Rattle.remove.specs.Lift.{sideUnder, hungUp, liftWith, liftOut, standing, replaced}
