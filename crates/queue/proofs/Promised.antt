@@ -18,12 +18,16 @@ use Rattle.insert.specs.declared.ahead.Ahead.{Ahead}
 use Rattle.insert.specs.declared.ahead.Ahead.the-variants as A
 use Rattle.insert.proofs.Laws.{insert-normal-within, insert-empty-within, insert-manual-within}
 use Rattle.chain.specs.Steps.{endOf}
-use Rattle.remove.specs.Remove.{readBy}
+use Rattle.remove.specs.Remove.{removeBy, readBy}
+use Rattle.remove.specs.declared.removing.Removed.{Removed}
+use Rattle.remove.specs.declared.removing.Removed.the-variants as X
+use Rattle.remove.proofs.Laws.{remove-kept}
 use Rattle.remove.specs.declared.reading.Reading.{Reading}
 use Rattle.remove.specs.declared.reading.Reading.the-variants as D
 use Rattle.queue.specs.Promises.{Writes, Looks}
 use Rattle.queue.specs.Looking.{searched, searchCall, readCall}
 use Rattle.queue.specs.Moving.{movedTo, startCall, standIn, standCall, stepIn, stepCall}
+use Rattle.queue.specs.Taking.{removeCall}
 use Rattle.queue.specs.Placing.{insertCall, emptyCall, manualCall, aheadCall, aheadEmptyCall, aheadManualCall}
 use Rattle.queue.specs.declared.looking.Searched.{Searched}
 use Rattle.queue.specs.declared.looking.Searched.the-variants as S
@@ -67,6 +71,10 @@ module _ (s : List ℕ) where
   ahead-manual-looks h side key r e = looks _ s (λ cap. aheadManual s cap h side key) r e
 
 -- calls that write
+pub remove-writes : (s t : List ℕ) (r : Removed) (h : Handle) → (t, r) ≡ removeCall s h → Writes (X.Refused NotSound) (removeCall s h) s t r
+unfolding removeCall
+remove-writes s t r h e = writes _ s (λ cap. removeBy s cap h) (λ cap p. let k = remove-kept s cap h in record { long = k .long; rest = k .rest }) t r e
+
 kept : {s t : List ℕ} {cap : ℕ} → Within s t cap → Keeps s t cap
 kept w = record { long = w .long; rest = w .rest }
 
