@@ -1,0 +1,65 @@
+// Reads a script on standard input and writes the queue's answers on standard output, a line for a line.
+// The script language is that of paired runs: the same script gives the same bytes from the Rust side.
+mod command;
+mod fields;
+mod lines;
+mod out;
+mod serve;
+mod table;
+mod words;
+
+use libc::STDERR_FILENO;
+use libc::STDIN_FILENO;
+
+// Reads one part of the input and serves it. Answers whether there may be more.
+fn read_part(
+    line: &mut [u8; 128],
+    held: &mut usize,
+    s: &mut [u64; 10256],
+    t: &mut [u64; 17409],
+    o: &mut [u8; 65536],
+    at: &mut usize,
+) -> bool {
+    let mut part = io::large_buffer();
+    let got = libc::read(STDIN_FILENO, &mut part);
+    if got < 0 {
+        io::write_all(
+            STDERR_FILENO,
+            b"replay: could not read the script to its end\n",
+        );
+    }
+    let n = io::count(got, &part);
+    lines::feed(&part[..n], line, held, s, t, o, at);
+    0 < n
+}
+
+// Reads to the end of the input. Each part has a byte at least, so the count of parts can't run out.
+fn read_all(
+    line: &mut [u8; 128],
+    held: &mut usize,
+    s: &mut [u64; 10256],
+    t: &mut [u64; 17409],
+    o: &mut [u8; 65536],
+    at: &mut usize,
+) {
+    let mut parts: u64 = 18446744073709551615;
+    while 0 < parts {
+        if !read_part(line, held, s, t, o, at) {
+            break;
+        }
+        parts -= 1;
+    }
+}
+
+fn main() {
+    let mut line = [0u8; 128];
+    let mut held: usize = 0;
+    // Zeros are no laid out store: until the first `new` every call finds that its header fails.
+    let mut s = [0u64; 10256];
+    let mut t = [0u64; 17409];
+    let mut o = io::large_buffer();
+    let mut at: usize = 0;
+    read_all(&mut line, &mut held, &mut s, &mut t, &mut o, &mut at);
+    lines::finish(&mut line, &mut held, &mut s, &mut t, &mut o, &mut at);
+    out::flush(&mut o, &mut at);
+}
