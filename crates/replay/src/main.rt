@@ -3,7 +3,10 @@
 mod command;
 mod fields;
 mod lines;
+mod listing;
+mod looking;
 mod out;
+mod placing;
 mod serve;
 mod table;
 mod words;

@@ -1,5 +1,6 @@
 // Output: bytes are collected in a buffer, which is written out when it is full and at the end of the run.
 // `at` is how much of the buffer is in use; every function here is safe at any `at`.
+use arena::entries::Entry;
 use arena::keys;
 use handle::Key;
 use handle::Refusal;
@@ -64,6 +65,12 @@ pub fn key(out: &mut [u8; 65536], at: &mut usize, k: Key) {
     } else {
         number(out, at, w - 9223372036854775808);
     }
+}
+
+// A key and a value.
+pub fn entry(out: &mut [u8; 65536], at: &mut usize, e: Entry) {
+    key(out, at, e.key);
+    more(out, at, e.value);
 }
 
 pub fn end_line(out: &mut [u8; 65536], at: &mut usize) {
