@@ -1,0 +1,105 @@
+-- Holds taken apart into a sound queue and words, and put together again; and the bounds that follow.
+-- A reader may rely on: a proof of a call shows Sound by crate `rules` and Words by the writes, and ends with holds-of.
+use Prim.Native.Nat.{ℕ, zero, suc, _+_, _≤_, _<_}
+use mathlib.Core.Path.{_≡_, refl, sym, ap, _∙_}
+use mathlib.Core.Logic.{inl, inr}
+use mathlib.Core.List.{List, [], _∷_, _++_}
+use native.Mathlib.Decide.{ℕ-discrete}
+use native.Mathlib.Omega.{arith}
+use lib.ListN.{length, length-append}
+use Rattle.handle.specs.Numbers.{noSlot}
+use Rattle.arena.specs.Words.{Room, limit, topLimit, head, CAPACITY}
+use Rattle.wavl.specs.Lists.{All}
+use Rattle.wavl.specs.Entry.{slots}
+use Rattle.wavl.specs.Tree.{size}
+use Rattle.wavl.proofs.Lists.{all-left, all-right}
+use Rattle.wavl.proofs.Size.{size-length}
+use Rattle.rules.specs.Queue.{Handle, Queue, entries}
+use Rattle.rules.specs.Sound as Sound
+use Rattle.rules.specs.Sound.{InRange, freeSlots, usedSlots, Under, Sound}
+use Rattle.holds.specs.Holds.{Holds, Words}
+use Rattle.holds.proofs.Counting.{at-most, length-slots, length-freeSlots}
+
+-- crates `rules` and `arena` name the same two limits
+pub same-limit : Sound.limit ≡ limit
+unfolding Sound.limit
+same-limit = refl
+
+pub same-topLimit : Sound.topLimit ≡ topLimit
+unfolding Sound.topLimit
+same-topLimit = refl
+
+pub sound-of : {s : List ℕ} {q : Queue} → Holds s q → Sound q
+sound-of h = record {
+  in-range = record {
+    capacity-from = h .header .passes .some;
+    capacity-to = rw same-limit (h .header .passes .few);
+    top-from = h .rule-6 .top-from;
+    top-to = rw same-topLimit (h .rule-6 .top-to);
+  };
+  ranked = h .rule-2;
+  rising = h .rule-4;
+  apart = h .rule-5 .apart;
+  within = h .rule-5 .within;
+  live-generations = h .rule-6 .live;
+  free-generations = h .rule-6 .free;
+}
+
+pub words-of : {s : List ℕ} {q : Queue} → Holds s q → Words s q
+words-of h = record {
+  header = h .header;
+  tree = h .rule-1;
+  chain = h .rule-3;
+  live = h .live;
+  free = h .rule-5 .free;
+  retired = h .rule-5 .retired;
+  unused = h .rule-7;
+}
+
+pub holds-of : {s : List ℕ} {q : Queue} → Sound q → Words s q → Holds s q
+holds-of d w = record {
+  header = w .header;
+  rule-1 = w .tree;
+  rule-2 = d .ranked;
+  rule-3 = w .chain;
+  rule-4 = d .rising;
+  rule-5 = record { apart = d .apart; within = d .within; free = w .free; retired = w .retired };
+  rule-6 = record {
+    top-from = d .in-range .top-from;
+    top-to = rw same-topLimit at (d .in-range .top-to);
+    live = d .live-generations;
+    free = d .free-generations;
+  };
+  rule-7 = w .unused;
+  live = w .live;
+}
+
+-- what a capacity is never above, and the room for it
+pub few-slots : {s : List ℕ} {q : Queue} → Words s q → q .capacity ≤ noSlot
+few-slots w = let h : _ ≤ limit = w .header .passes .few in omega arith
+
+pub room-of : {s : List ℕ} {q : Queue} → Words s q → Room s (q .capacity)
+room-of w = w .header .passes .room
+
+module _ {q : Queue} (d : Sound q) where
+  -- live and free slots together are no more than the capacity
+  pub used-few : length (entries q) + length (q .free) ≤ q .capacity
+  used-few =
+      let h = at-most (q .capacity) (usedSlots q) (d .apart) (d .within) in
+      let e = length-append (slots (entries q)) (freeSlots (q .free)) in
+      let f = length-slots (entries q) in
+      let g = length-freeSlots (q .free) in
+      omega arith
+
+  pub size-few : size (q .tree) ≤ noSlot
+  size-few =
+      let h = used-few in
+      let e = size-length (q .tree) in
+      let f : q .capacity ≤ limit = rw same-limit at (d .in-range .capacity-to) in
+      omega arith
+
+  pub live-low : All (Under (q .capacity)) (slots (entries q))
+  live-low = all-left (Under (q .capacity)) (slots (entries q)) (freeSlots (q .free)) (d .within)
+
+  pub free-low : All (Under (q .capacity)) (freeSlots (q .free))
+  free-low = all-right (Under (q .capacity)) (slots (entries q)) (freeSlots (q .free)) (d .within)
