@@ -1,3 +1,6 @@
 pub mod Counting
 pub mod Parts
 pub mod FreshQueue
+pub mod Has
+pub mod Trees
+pub mod Ways

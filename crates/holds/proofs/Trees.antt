@@ -1,0 +1,111 @@
+-- The links of a tree, over the side: a node opened and closed, what a store must keep for the links to stay, and the words of a
+-- tree's member. A reader may rely on: only LEFT, RIGHT, RANK and BACK of the tree's own slots matter.
+use Prim.Native.Nat.{ℕ, _+_, _-_, _≤_, _<_}
+use mathlib.Core.Path.{_≡_, refl, sym, _∙_}
+use mathlib.Core.Logic.{_⊎_, inl, inr, ⊎-elim}
+use mathlib.Core.List.{List}
+use native.Mathlib.Omega.{arith}
+use Rattle.arena.specs.Words.{fields, field, LEFT, RIGHT, RANK, BACK}
+use Rattle.wavl.specs.Entry.{Entry, slots}
+use Rattle.wavl.specs.Tree.{Side, left, right, Tree, tip, fork, node, inorder}
+use Rattle.holds.specs.Ends.{topSlot, number}
+use Rattle.holds.specs.Links.{Node, Links}
+use Rattle.holds.proofs.Has.{Has, Distinct, Apart, apart, has-cases, has-top, has-near, has-far}
+
+pub number-small : (d : Side) → number d ≤ 1
+number-small left = omega arith
+number-small right = omega arith
+
+-- a field of the tree's links
+pub record LinkField (g : ℕ) : Type 0 where
+  pub from : LEFT ≤ g
+  pub to : g ≤ BACK
+
+module _ (s : List ℕ) (cap : ℕ) where
+  pub opened : (d : Side) (back : ℕ) (a : Tree) (e : Entry) (r : ℕ) (b : Tree) → Links s cap back (node d a e r b)
+      → Node s cap (number d) back (topSlot a) (e .slot) r (topSlot b) × Links s cap (e .slot) a × Links s cap (e .slot) b
+  opened left back a e r b l = l
+  opened right back a e r b l =
+      (record { low = l .0 .low; back-is = l .0 .back-is; near-is = l .0 .far-is; far-is = l .0 .near-is; rank-is = l .0 .rank-is }, l .2, l .1)
+
+  pub closed : (d : Side) (back : ℕ) (a : Tree) (e : Entry) (r : ℕ) (b : Tree) → Node s cap (number d) back (topSlot a) (e .slot) r (topSlot b)
+      → Links s cap (e .slot) a → Links s cap (e .slot) b → Links s cap back (node d a e r b)
+  closed left back a e r b n x y = (n, x, y)
+  closed right back a e r b n x y =
+      (record { low = n .low; back-is = n .back-is; near-is = n .far-is; far-is = n .near-is; rank-is = n .rank-is }, y, x)
+
+  -- every slot of a tree in the words lies in the store
+  pub slot-low : (t : Tree) (back : ℕ) → Links s cap back t → (j : ℕ) → Has j t → j < cap
+  unfolding inorder slots
+  slot-low tip back l j h = absurd h
+  slot-low (fork a e r b) back l j h =
+      ⊎-elim (λ x. let low : e .slot < cap = l .0 .low in omega arith)
+      (⊎-elim (slot-low a (e .slot) (l .1) j) (slot-low b (e .slot) (l .2) j)) (has-cases a e r b left j h)
+
+-- the slot j has the same link fields in both stores
+abbrev pub SameLinks : List ℕ → List ℕ → ℕ → ℕ → Type 0
+SameLinks s t cap j = (g : ℕ) → LinkField g → field t cap j g ≡ field s cap j g
+
+module _ (s t : List ℕ) (cap : ℕ) where
+  pub node-keep : (d back near i r far : ℕ) → d ≤ 1 → SameLinks s t cap i → Node s cap d back near i r far → Node t cap d back near i r far
+  node-keep d back near i r far hd k n = record {
+    low = n .low;
+    back-is = k BACK (record { from = omega arith; to = omega arith }) ∙ n .back-is;
+    near-is = k (LEFT + d) (record { from = omega arith; to = omega arith }) ∙ n .near-is;
+    far-is = k (RIGHT - d) (record { from = omega arith; to = omega arith }) ∙ n .far-is;
+    rank-is = k RANK (record { from = omega arith; to = omega arith }) ∙ n .rank-is;
+  }
+
+  -- a tree stays where its slots' links stay
+  pub links-keep : (x : Tree) (back : ℕ) → ((j : ℕ) → j < cap → Has j x → SameLinks s t cap j) → Links s cap back x → Links t cap back x
+  links-keep tip back k l = tt
+  links-keep (fork a e r b) back k l = (
+    node-keep 0 back (topSlot a) (e .slot) r (topSlot b) (omega arith) (k (e .slot) (l .0 .low) (has-top a e r b left (e .slot) refl)) (l .0),
+    links-keep a (e .slot) (λ j low h. k j low (has-near a e r b left j h)) (l .1),
+    links-keep b (e .slot) (λ j low h. k j low (has-far a e r b left j h)) (l .2),
+  )
+
+  -- one slot alone is written: a tree without it stays
+  abbrev pub Touch : ℕ → Type 0
+  Touch i = (j : ℕ) → j < cap → ¬ (j ≡ i) → SameLinks s t cap j
+
+  pub carry : (i : ℕ) → Touch i → (x : Tree) (back : ℕ) → ¬ (Has i x) → Links s cap back x → Links t cap back x
+  carry i T x back n = links-keep x back (λ j low h. T j low (λ e. n (rw e at h)))
+
+  pub carry-node : (i : ℕ) → Touch i → (d back near j r far : ℕ) → d ≤ 1 → ¬ (j ≡ i) → Node s cap d back near j r far → Node t cap d back near j r far
+  carry-node i T d back near j r far hd n x = node-keep d back near j r far hd (T j (x .low) n) x
+
+  -- only slots of x are written: a tree apart from x stays
+  abbrev pub Away : Tree → Type 0
+  Away x = (j : ℕ) → j < cap → ¬ (Has j x) → SameLinks s t cap j
+
+  pub carry-away : (x y : Tree) → Away x → (back : ℕ) → ((j : ℕ) → Has j y → ¬ (Has j x)) → Links s cap back y → Links t cap back y
+  carry-away x y k back n = links-keep y back (λ j low h. k j low (n j h))
+
+  -- a tree below another back link: the top's BACK alone is another
+  pub links-back : (x : Tree) (back new : ℕ) → Distinct x → ((j : ℕ) → j < cap → Has j x → ¬ (j ≡ topSlot x) → SameLinks s t cap j)
+      → ((g : ℕ) → LinkField g → ¬ (g ≡ BACK) → topSlot x < cap → field t cap (topSlot x) g ≡ field s cap (topSlot x) g)
+      → (topSlot x < cap → field t cap (topSlot x) BACK ≡ new) → Links s cap back x → Links t cap new x
+  links-back tip back new d k m n l = tt
+  links-back (fork a e r b) back new d k m n l =
+      let p = apart a e r b left d in
+      let low : e .slot < cap = l .0 .low in (
+        record {
+          low = low;
+          back-is = n low;
+          near-is = m LEFT (record { from = omega arith; to = omega arith }) (λ z. omega arith) low ∙ l .0 .near-is;
+          far-is = m RIGHT (record { from = omega arith; to = omega arith }) (λ z. omega arith) low ∙ l .0 .far-is;
+          rank-is = m RANK (record { from = omega arith; to = omega arith }) (λ z. omega arith) low ∙ l .0 .rank-is;
+        },
+        links-keep a (e .slot) (λ j lj h. k j lj (has-near a e r b left j h) (λ z. p .near (rw z at h))) (l .1),
+        links-keep b (e .slot) (λ j lj h. k j lj (has-far a e r b left j h) (λ z. p .far (rw z at h))) (l .2),
+      )
+
+pub touch-trans : (s t u : List ℕ) (cap i : ℕ) → Touch s t cap i → Touch t u cap i → Touch s u cap i
+touch-trans s t u cap i f g j low n w k = g j low n w k ∙ f j low n w k
+
+pub away-trans : (s t u : List ℕ) (cap : ℕ) (x : Tree) → Away s t cap x → Away t u cap x → Away s u cap x
+away-trans s t u cap x f g j low n w k = g j low n w k ∙ f j low n w k
+
+pub away-touch : (s t : List ℕ) (cap i : ℕ) (x : Tree) → Has i x → Touch s t cap i → Away s t cap x
+away-touch s t cap i x h f j low n = f j low (λ e. n (rw e h))
