@@ -4,3 +4,5 @@ pub mod FreshQueue
 pub mod Has
 pub mod Trees
 pub mod Ways
+pub mod States
+pub mod Live

@@ -5,3 +5,4 @@ pub mod Entries
 pub mod Free
 pub mod Holds
 pub mod Ways
+pub mod Handles
