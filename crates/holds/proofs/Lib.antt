@@ -6,3 +6,5 @@ pub mod Trees
 pub mod Ways
 pub mod States
 pub mod Live
+pub mod Writes
+pub mod Groups

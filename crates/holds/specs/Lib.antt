@@ -6,3 +6,4 @@ pub mod Free
 pub mod Holds
 pub mod Ways
 pub mod Handles
+pub mod Writes
