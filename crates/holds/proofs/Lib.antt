@@ -8,3 +8,4 @@ pub mod States
 pub mod Live
 pub mod Writes
 pub mod Groups
+pub mod WayWrites

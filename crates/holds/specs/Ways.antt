@@ -30,3 +30,8 @@ abbrev pub LinksWay : List ℕ → ℕ → Way → Type 0
 LinksWay s cap [] = Unit {0}
 LinksWay s cap (step d e r u ∷ p) =
     Half s cap (number d) (parent p) (e .slot) r (topSlot u) × Links s cap (e .slot) u × Hook s cap p (e .slot) × LinksWay s cap p
+
+-- the side of the parent on which the place hangs, as the words number it; 0 at the root
+abbrev pub sideIn : Way → ℕ
+sideIn [] = 0
+sideIn (step d e r u ∷ p) = number d
