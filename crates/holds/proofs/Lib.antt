@@ -9,3 +9,6 @@ pub mod Live
 pub mod Writes
 pub mod Groups
 pub mod WayWrites
+pub mod NodeWrites
+pub mod Reshaped
+pub mod OneQueue
