@@ -12,3 +12,4 @@ pub mod WayWrites
 pub mod NodeWrites
 pub mod Reshaped
 pub mod OneQueue
+pub mod SameStore

@@ -1,5 +1,5 @@
 -- When the words of a store hold a queue: document 01's "A store is sound when its header passes (see number 5) and all of these
--- hold", a named part for each rule. A reader may rely on: proofs/OneQueue: a store holds no second queue; proofs/OneStore: every
+-- hold", a named part for each rule. A reader may rely on: proofs/OneQueue: a store holds no second queue; proofs/SameStore: every
 -- needed word follows from the queue.
 use Prim.Native.Nat.{ℕ, _≤_, _<_}
 use mathlib.Core.Path.{_≡_}
