@@ -13,3 +13,4 @@ pub mod NodeWrites
 pub mod Reshaped
 pub mod OneQueue
 pub mod SameStore
+pub mod Seeks

@@ -7,3 +7,4 @@ pub mod Holds
 pub mod Ways
 pub mod Handles
 pub mod Writes
+pub mod Meanings
