@@ -14,3 +14,4 @@ pub mod Reshaped
 pub mod OneQueue
 pub mod SameStore
 pub mod Seeks
+pub mod Chains
