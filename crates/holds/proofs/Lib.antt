@@ -15,3 +15,5 @@ pub mod OneQueue
 pub mod SameStore
 pub mod Seeks
 pub mod Chains
+pub mod Turned
+pub mod TurnedOnce
