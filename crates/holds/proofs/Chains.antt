@@ -29,7 +29,7 @@ use Rattle.holds.specs.Chain.{Between, Chain, ChainWords}
 use Rattle.holds.specs.Holds.{Holds}
 use Rattle.holds.specs.Handles.{plain}
 use Rattle.holds.specs.Meanings.{stepMeans}
-use Rattle.holds.proofs.Parts.{sound-of, words-of, few-slots, live-low}
+use Rattle.holds.proofs.Parts.{sound-of, words-of, few-slots, separate-of, live-low}
 use Rattle.holds.proofs.Live.{live-entry, spot-in}
 
 -- the slot of an end, if there is one
@@ -77,7 +77,7 @@ module _ {s : List ℕ} {q : Queue} (h : Holds s q) where
   link-means none i = rw (follow-none s cap noSlot refl)
   link-means (some y) i =
       let j = i y refl in
-      let low : y .slot < cap = all-in (Under cap) (slots (entries q)) (live-low (sound-of h)) (y .slot) (in-slots y (entries q) j) in
+      let low : y .slot < cap = all-in (Under cap) (slots (entries q)) (live-low (separate-of (sound-of h))) (y .slot) (in-slots y (entries q) j) in
       rw (follow-at s cap (y .slot) (few-slots (words-of h)) low, live-entry h y j .generation-is)
 
   first-in : (l : List Entry) (y : Entry) → first l ≡ some y → In y l

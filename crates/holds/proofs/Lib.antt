@@ -17,3 +17,4 @@ pub mod Seeks
 pub mod Chains
 pub mod Turned
 pub mod TurnedOnce
+pub mod AnyDepth

@@ -9,10 +9,10 @@ use native.Mathlib.Omega.{arith}
 use lib.ListN.{length, length-append}
 use Rattle.handle.specs.Numbers.{noSlot}
 use Rattle.arena.specs.Words.{Room, limit, topLimit, head, CAPACITY}
-use Rattle.wavl.specs.Lists.{All}
+use Rattle.wavl.specs.Lists.{All, In, Differ, Once}
 use Rattle.wavl.specs.Entry.{slots}
 use Rattle.wavl.specs.Tree.{size}
-use Rattle.wavl.proofs.Lists.{all-left, all-right}
+use Rattle.wavl.proofs.Lists.{all-left, all-right, pairwise-across}
 use Rattle.wavl.proofs.Size.{size-length}
 use Rattle.rules.specs.Queue.{Handle, Queue, entries}
 use Rattle.rules.specs.Sound as Sound
@@ -81,7 +81,15 @@ few-slots w = let h : _ ≤ limit = w .header .passes .few in omega arith
 pub room-of : {s : List ℕ} {q : Queue} → Words s q → Room s (q .capacity)
 room-of w = w .header .passes .room
 
-module _ {q : Queue} (d : Sound q) where
+-- rule 5 as far as it speaks of the queue: it holds between the steps of a call too, where ranks may not
+pub record Separate (q : Queue) : Type 0 where
+  pub apart : Once (usedSlots q)
+  pub within : All (Under (q .capacity)) (usedSlots q)
+
+pub separate-of : {q : Queue} → Sound q → Separate q
+separate-of d = record { apart = d .apart; within = d .within }
+
+module _ {q : Queue} (d : Separate q) where
   -- live and free slots together are no more than the capacity
   pub used-few : length (entries q) + length (q .free) ≤ q .capacity
   used-few =
@@ -91,15 +99,19 @@ module _ {q : Queue} (d : Sound q) where
       let g = length-freeSlots (q .free) in
       omega arith
 
-  pub size-few : size (q .tree) ≤ noSlot
-  size-few =
-      let h = used-few in
-      let e = size-length (q .tree) in
-      let f : q .capacity ≤ limit = rw same-limit at (d .in-range .capacity-to) in
-      omega arith
-
   pub live-low : All (Under (q .capacity)) (slots (entries q))
   live-low = all-left (Under (q .capacity)) (slots (entries q)) (freeSlots (q .free)) (d .within)
 
   pub free-low : All (Under (q .capacity)) (freeSlots (q .free))
   free-low = all-right (Under (q .capacity)) (slots (entries q)) (freeSlots (q .free)) (d .within)
+
+  -- a free slot is no live one
+  pub free-not-live : (j : ℕ) → In j (freeSlots (q .free)) → ¬ (In j (slots (entries q)))
+  free-not-live j f l = pairwise-across Differ (slots (entries q)) (freeSlots (q .free)) (d .apart) j j l f refl
+
+pub size-few : {q : Queue} → Sound q → size (q .tree) ≤ noSlot
+size-few {q} d =
+    let h = used-few (separate-of d) in
+    let e = size-length (q .tree) in
+    let f : q .capacity ≤ limit = rw same-limit at (d .in-range .capacity-to) in
+    omega arith

@@ -8,23 +8,18 @@ use native.Mathlib.Omega.{arith}
 use lib.Dec.{lit<}
 use lib.ListN.{length}
 use Rattle.arena.specs.Words.{head, PREV, TOP, STACK, ROOT}
-use Rattle.wavl.specs.Lists.{In, Differ}
+use Rattle.wavl.specs.Lists.{In}
 use Rattle.wavl.specs.Entry.{slots}
 use Rattle.wavl.specs.Tree.{Tree, inorder}
-use Rattle.wavl.proofs.Lists.{in-left, in-right, pairwise-across}
+use Rattle.wavl.proofs.Lists.{in-left}
 use Rattle.rules.specs.Queue.{Queue, entries}
-use Rattle.rules.specs.Sound.{freeSlots, usedSlots, Sound}
+use Rattle.rules.specs.Sound.{freeSlots, usedSlots}
 use Rattle.holds.specs.Links.{TreeWords}
 use Rattle.holds.specs.Holds.{HeaderWords, Words}
 use Rattle.holds.specs.Writes.{Only}
-use Rattle.holds.proofs.Parts.{used-few, live-low, free-low}
-use Rattle.holds.proofs.Trees.{LinkField}
+use Rattle.holds.proofs.Parts.{Separate, used-few, live-low, free-low, free-not-live}
+use Rattle.holds.proofs.Trees.{LinkField, LinkOf}
 use Rattle.holds.proofs.Groups.{passing-stays, unused-stays, chain-stays, entries-stay, stack-stays, all-retired-stay}
-
--- a link of one of the slots l
-pub record LinkOf (l : List ℕ) (j g : ℕ) : Type 0 where
-  pub slot-in : In j l
-  pub field-is : LinkField g
 
 abbrev pub IsRoot : ℕ → Type 0
 IsRoot h = h ≡ ROOT
@@ -38,17 +33,13 @@ header-stays s t q W H o n w =
 abbrev pub withTree : Tree → Queue → Queue
 withTree x q = record { capacity = q .capacity; top = q .top; tree = x; free = q .free }
 
--- a free slot is no live one
-pub free-not-live : {q : Queue} → Sound q → (j : ℕ) → In j (freeSlots (q .free)) → ¬ (In j (slots (entries q)))
-free-not-live {q} d j f l = pairwise-across Differ (slots (entries q)) (freeSlots (q .free)) (d .apart) j j l f refl
-
 not-link : (l : List ℕ) (j g : ℕ) → PREV ≤ g → ¬ (LinkOf l j g)
 not-link l j g h k = let m = k .field-is in omega arith
 
 not-key : (l : List ℕ) (j : ℕ) → ¬ (LinkOf l j 0)
 not-key l j k = let m = k .field-is in omega arith
 
-pub reshaped : {s t : List ℕ} {q : Queue} (x : Tree) → Sound q → Words s q → Only s t (q .capacity) (LinkOf (slots (entries q))) IsRoot
+pub reshaped : {s t : List ℕ} {q : Queue} (x : Tree) → Separate q → Words s q → Only s t (q .capacity) (LinkOf (slots (entries q))) IsRoot
     → inorder x ≡ entries q → TreeWords t (q .capacity) x → Words t (withTree x q)
 reshaped {s} {t} {q} x d w o e T =
     let cap = q .capacity in

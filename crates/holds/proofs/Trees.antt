@@ -6,6 +6,7 @@ use mathlib.Core.Logic.{_⊎_, inl, inr, ⊎-elim}
 use mathlib.Core.List.{List}
 use native.Mathlib.Omega.{arith}
 use Rattle.arena.specs.Words.{fields, field, LEFT, RIGHT, RANK, BACK}
+use Rattle.wavl.specs.Lists.{In}
 use Rattle.wavl.specs.Entry.{Entry, slots}
 use Rattle.wavl.specs.Tree.{Side, left, right, Tree, tip, fork, node, inorder}
 use Rattle.holds.specs.Ends.{topSlot, number}
@@ -20,6 +21,11 @@ number-small right = omega arith
 pub record LinkField (g : ℕ) : Type 0 where
   pub from : LEFT ≤ g
   pub to : g ≤ BACK
+
+-- a link of one of the slots l
+pub record LinkOf (l : List ℕ) (j g : ℕ) : Type 0 where
+  pub slot-in : In j l
+  pub field-is : LinkField g
 
 module _ (s : List ℕ) (cap : ℕ) where
   pub opened : (d : Side) (back : ℕ) (a : Tree) (e : Entry) (r : ℕ) (b : Tree) → Links s cap back (node d a e r b)
