@@ -18,3 +18,5 @@ pub mod Chains
 pub mod Turned
 pub mod TurnedOnce
 pub mod AnyDepth
+pub mod Segments
+pub mod Linked

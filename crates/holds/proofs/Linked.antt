@@ -1,0 +1,232 @@
+-- Linking in and out, seen by the chain: an entry put in anywhere, an entry taken out anywhere. One law over the side.
+-- A reader may rely on: chain-in with after-links, before-links or alone-links, and chain-out with joined-unlinks.
+use Prim.Native.Nat.{ℕ, zero, suc, _+_, _-_, _≤_, _<_}
+use mathlib.Core.Path.{_≡_, refl, sym, ap, _∙_}
+use mathlib.Core.Logic.{_⊎_, inl, inr}
+use mathlib.Core.List.{List, [], _∷_, _++_, append-nil}
+use native.Mathlib.Omega.{arith}
+use lib.Dec.{lit<}
+use Rattle.handle.specs.Numbers.{noSlot}
+use Rattle.arena.specs.Words.{Room, fields, field, head, PREV, NEXT, FIRST, LAST}
+use Rattle.chain.specs.Links.{between, joined, linkAlone}
+use Rattle.chain.proofs.Laws.{between-near, between-far, between-at, between-back, between-end, between-field, between-head, between-heads, alone-field, alone-near, alone-end, joined-field, joined-next, joined-prev, joined-first, joined-last, joined-first-kept, joined-last-kept}
+use Rattle.wavl.specs.Lists.{All, In, Differ, Once}
+use Rattle.wavl.specs.Entry.{Entry, slots}
+use Rattle.wavl.proofs.Lists.{all-left, all-right, all-in, in-left, in-right, pairwise-left, pairwise-right, pairwise-across, below-one, above-one, slots-append}
+use Rattle.rules.specs.Sound.{Under}
+use Rattle.rules.proofs.Lists.{slots-put}
+use Rattle.holds.specs.Ends.{firstSlot, lastSlot}
+use Rattle.holds.specs.Chain.{Between, Chain, ChainWords}
+use Rattle.holds.proofs.Chains.{endOr, end-last}
+use Rattle.holds.proofs.Segments.{firstOr, Row, first-none, last-append, last-in-slots, row-of, chain-of, row-left, row-right, row-both, row-next, row-prev}
+
+-- i was put in between a and b, each a slot or none
+pub record Linked (s t : List ℕ) (cap a i b : ℕ) : Type 0 where
+  pub prev-is : field t cap i PREV ≡ a
+  pub next-is : field t cap i NEXT ≡ b
+  pub left-next : a < cap → field t cap a NEXT ≡ i
+  pub left-end : cap ≤ a → head t FIRST ≡ i
+  pub right-prev : b < cap → field t cap b PREV ≡ i
+  pub right-end : cap ≤ b → head t LAST ≡ i
+  pub first-kept : a < cap → head t FIRST ≡ head s FIRST
+  pub last-kept : b < cap → head t LAST ≡ head s LAST
+  pub others : (j g : ℕ) → j < cap → g < fields → ¬ (j ≡ i) → ¬ ((j ≡ a) × (g ≡ NEXT)) → ¬ ((j ≡ b) × (g ≡ PREV)) → field t cap j g ≡ field s cap j g
+
+-- what stood between a and b was taken out
+pub record Unlinked (s t : List ℕ) (cap a b : ℕ) : Type 0 where
+  pub left-next : a < cap → field t cap a NEXT ≡ b
+  pub left-end : cap ≤ a → head t FIRST ≡ b
+  pub right-prev : b < cap → field t cap b PREV ≡ a
+  pub right-end : cap ≤ b → head t LAST ≡ a
+  pub first-kept : a < cap → head t FIRST ≡ head s FIRST
+  pub last-kept : b < cap → head t LAST ≡ head s LAST
+  pub others : (j g : ℕ) → j < cap → g < fields → ¬ ((j ≡ a) × (g ≡ NEXT)) → ¬ ((j ≡ b) × (g ≡ PREV)) → field t cap j g ≡ field s cap j g
+
+-- the writes of crate `chain`
+module _ (s : List ℕ) (cap i p q : ℕ) (room : Room s cap) (hi : i < cap) (hp : p < cap) (np : ¬ (i ≡ p)) (nq : ¬ (i ≡ q)) where
+  -- behind p, before q
+  pub after-links : Linked s (between s cap i p q 1) cap p i q
+  after-links = record {
+    prev-is = between-far s cap i p q 1 hi hp (omega arith) room nq;
+    next-is = between-near s cap i p q 1 hi hp (omega arith) room np;
+    left-next = λ l. between-at s cap i p q 1 hi hp (omega arith) room;
+    left-end = λ l. absurd (omega arith);
+    right-prev = between-back s cap i p q 1 hi hp (omega arith) room;
+    right-end = between-end s cap i p q 1 hi hp (omega arith) room;
+    first-kept = λ l. between-head s cap i p q 1 hi hp (omega arith) FIRST (lit< tt) (λ e. omega arith);
+    last-kept = λ l. between-heads s cap i p q 1 hi hp (omega arith) l LAST (lit< tt);
+    others = λ j g hj hg n a b. between-field s cap i p q 1 hi hp (omega arith) j g hj hg n a b;
+  }
+
+  -- before p, behind q
+  pub before-links : Linked s (between s cap i p q 0) cap q i p
+  before-links = record {
+    prev-is = between-near s cap i p q 0 hi hp (omega arith) room np;
+    next-is = between-far s cap i p q 0 hi hp (omega arith) room nq;
+    left-next = between-back s cap i p q 0 hi hp (omega arith) room;
+    left-end = between-end s cap i p q 0 hi hp (omega arith) room;
+    right-prev = λ l. between-at s cap i p q 0 hi hp (omega arith) room;
+    right-end = λ l. absurd (omega arith);
+    first-kept = λ l. between-heads s cap i p q 0 hi hp (omega arith) l FIRST (lit< tt);
+    last-kept = λ l. between-head s cap i p q 0 hi hp (omega arith) LAST (lit< tt) (λ e. omega arith);
+    others = λ j g hj hg n a b. between-field s cap i p q 0 hi hp (omega arith) j g hj hg n b a;
+  }
+
+pub alone-links : (s : List ℕ) (cap i : ℕ) → cap ≤ noSlot → Room s cap → i < cap → Linked s (linkAlone s cap i) cap noSlot i noSlot
+alone-links s cap i few room hi = record {
+  prev-is = alone-near s cap i hi room 0 (omega arith);
+  next-is = alone-near s cap i hi room 1 (omega arith);
+  left-next = λ l. absurd (omega arith);
+  left-end = λ l. alone-end s cap i hi room 0 (omega arith);
+  right-prev = λ l. absurd (omega arith);
+  right-end = λ l. alone-end s cap i hi room 1 (omega arith);
+  first-kept = λ l. absurd (omega arith);
+  last-kept = λ l. absurd (omega arith);
+  others = λ j g hj hg n a b. alone-field s cap i hi j g hj hg n;
+}
+
+pub joined-unlinks : (s : List ℕ) (cap a b : ℕ) → Room s cap → Unlinked s (joined s cap a b) cap a b
+joined-unlinks s cap a b room = record {
+  left-next = joined-next s cap a b room;
+  left-end = joined-first s cap a b room;
+  right-prev = joined-prev s cap a b room;
+  right-end = joined-last s cap a b room;
+  first-kept = joined-first-kept s cap a b;
+  last-kept = joined-last-kept s cap a b;
+  others = joined-field s cap a b;
+}
+
+-- the ends of a chain with more in it
+first-of : (l m : List Entry) → firstSlot (l ++ m) ≡ firstOr (firstSlot m) l
+first-of [] m = refl
+first-of (e ∷ l) m = refl
+
+-- the last of a part lies in the store, or there is none
+last-low : (cap : ℕ) (l : List Entry) → All (Under cap) (slots l) → (l ≡ []) ⊎ (lastSlot l < cap)
+last-low cap [] u = inl refl
+last-low cap (e ∷ l) u = inr (all-in (Under cap) (slots (e ∷ l)) u (lastSlot (e ∷ l)) (last-in-slots e l))
+
+module _ (s t : List ℕ) (cap : ℕ) (l : List Entry) (x : Entry) (m : List Entry) (few : cap ≤ noSlot)
+    (once : Once (slots (l ++ (x ∷ m)))) (low : All (Under cap) (slots (l ++ (x ∷ m)))) where
+  parts : Once (slots l ++ (x .slot ∷ slots m))
+  parts = rw (slots-put l x m) at once
+
+  low-parts : All (Under cap) (slots l ++ (x .slot ∷ slots m))
+  low-parts = rw (slots-put l x m) at low
+
+  low-l : All (Under cap) (slots l)
+  low-l = all-left (Under cap) (slots l) (x .slot ∷ slots m) low-parts
+
+  low-m : All (Under cap) (slots m)
+  low-m = all-right (Under cap) (slots l) (x .slot ∷ slots m) low-parts .1
+
+  once-l : Once (slots l)
+  once-l = pairwise-left Differ (slots l) (x .slot ∷ slots m) parts
+
+  once-m : Once (slots m)
+  once-m = pairwise-right Differ (slots l) (x .slot ∷ slots m) parts .1
+
+  l-not-m : (j : ℕ) → In j (slots l) → ¬ (In j (slots m))
+  l-not-m j a b = pairwise-across Differ (slots l) (x .slot ∷ slots m) parts j j a (inr b) refl
+
+  l-not-x : (j : ℕ) → In j (slots l) → ¬ (j ≡ x .slot)
+  l-not-x j a e = all-in _ (slots l) (below-one Differ (slots l) (x .slot) (slots m) parts) j a e
+
+  m-not-x : (j : ℕ) → In j (slots m) → ¬ (j ≡ x .slot)
+  m-not-x j a e = all-in _ (slots m) (above-one Differ (slots l) (x .slot) (slots m) parts) j a (sym e)
+
+  -- a slot of l is not m's first, and one of m not l's last
+  not-first : (k : List Entry) (j : ℕ) → j < cap → ¬ (In j (slots k)) → ¬ (j ≡ firstSlot k)
+  unfolding slots
+  not-first [] j lj n e = omega arith
+  not-first (f ∷ k) j lj n e = n (inl e)
+
+  not-last : (k : List Entry) (j : ℕ) → j < cap → ¬ (In j (slots k)) → ¬ (j ≡ lastSlot k)
+  not-last [] j lj n e = omega arith
+  not-last (f ∷ k) j lj n e = n (rw e (last-in-slots f k))
+
+  at-l : (j : ℕ) → In j (slots l) → j < cap
+  at-l j a = all-in (Under cap) (slots l) low-l j a
+
+  at-m : (j : ℕ) → In j (slots m) → j < cap
+  at-m j a = all-in (Under cap) (slots m) low-m j a
+
+  -- the ends stay where there is something on that side
+  first-same : (k : List Entry) → lastSlot k < cap → firstSlot (k ++ m) ≡ firstSlot (k ++ (x ∷ m))
+  first-same [] h = absurd (omega arith)
+  first-same (e ∷ k) h = refl
+
+  last-same : (k : List Entry) → firstSlot k < cap → lastSlot (l ++ k) ≡ lastSlot (l ++ (x ∷ k))
+  last-same [] h = absurd (omega arith)
+  last-same (e ∷ k) h = last-append l e k ∙ sym (last-append l x (e ∷ k))
+
+  none-or : (k : List Entry) → All (Under cap) (slots k) → (k ≡ []) ⊎ (firstSlot k < cap)
+  unfolding slots
+  none-or [] u = inl refl
+  none-or (e ∷ k) u = inr (u .0)
+
+  pub chain-in : Linked s t cap (lastSlot l) (x .slot) (firstSlot m) → ChainWords s cap (l ++ m) → ChainWords t cap (l ++ (x ∷ m))
+  chain-in K c = record { first-is = firsts (last-low cap l low-l); last-is = lasts (none-or m low-m); chain = chain-of t cap (l ++ (x ∷ m)) noSlot row }
+    where
+      old : Row s cap noSlot (l ++ m) noSlot
+      old = row-of s cap (l ++ m) noSlot (c .chain)
+
+      row-l : Row t cap noSlot l (x .slot)
+      row-l =
+          row-next s t cap l noSlot _ (x .slot) once-l
+          (λ j a. K .others j PREV (at-l j a) (lit< tt) (l-not-x j a) (λ e. let z = e .1 in omega arith) (λ e. not-first m j (at-l j a) (l-not-m j a) (e .0)))
+          (λ j a n. K .others j NEXT (at-l j a) (lit< tt) (l-not-x j a) (λ e. n (e .0)) (λ e. let z = e .1 in omega arith))
+          (λ j a e. rw e (K .left-next (rw e at (at-l j a))))
+          (row-left s cap l m noSlot noSlot old)
+
+      row-m : Row t cap (x .slot) m noSlot
+      row-m =
+          row-prev s t cap m (endOr noSlot l) (x .slot) noSlot once-m
+          (λ j a. K .others j NEXT (at-m j a) (lit< tt) (m-not-x j a) (λ e. not-last l j (at-m j a) (λ b. l-not-m j b a) (e .0)) (λ e. let z = e .1 in omega arith))
+          (λ j a n. K .others j PREV (at-m j a) (lit< tt) (m-not-x j a) (λ e. let z = e .1 in omega arith) (λ e. n (e .0)))
+          (λ j a e. rw e (K .right-prev (rw e at (at-m j a))))
+          (row-right s cap l m noSlot noSlot old)
+
+      row : Row t cap noSlot (l ++ (x ∷ m)) noSlot
+      row = row-both t cap l (x ∷ m) noSlot noSlot row-l (record { prev-is = K .prev-is ∙ sym (end-last l); next-is = K .next-is ∙ sym (first-none m) }, row-m)
+
+      firsts : (l ≡ []) ⊎ (lastSlot l < cap) → head t FIRST ≡ firstSlot (l ++ (x ∷ m))
+      firsts (inl e) = let h : cap ≤ lastSlot l = rw e few in K .left-end h ∙ rw e
+      firsts (inr h) = K .first-kept h ∙ c .first-is ∙ first-same l h
+
+      lasts : (m ≡ []) ⊎ (firstSlot m < cap) → head t LAST ≡ lastSlot (l ++ (x ∷ m))
+      lasts (inl e) = let h : cap ≤ firstSlot m = rw e few in K .right-end h ∙ rw e (sym (last-append l x []))
+      lasts (inr h) = K .last-kept h ∙ c .last-is ∙ last-same m h
+
+  pub chain-out : Unlinked s t cap (lastSlot l) (firstSlot m) → ChainWords s cap (l ++ (x ∷ m)) → ChainWords t cap (l ++ m)
+  chain-out K c = record { first-is = firsts (last-low cap l low-l); last-is = lasts (none-or m low-m); chain = chain-of t cap (l ++ m) noSlot row }
+    where
+      old : Row s cap noSlot (l ++ (x ∷ m)) noSlot
+      old = row-of s cap (l ++ (x ∷ m)) noSlot (c .chain)
+
+      row-l : Row t cap noSlot l (firstOr noSlot m)
+      row-l =
+          row-next s t cap l noSlot (x .slot) (firstOr noSlot m) once-l
+          (λ j a. K .others j PREV (at-l j a) (lit< tt) (λ e. let z = e .1 in omega arith) (λ e. not-first m j (at-l j a) (l-not-m j a) (e .0)))
+          (λ j a n. K .others j NEXT (at-l j a) (lit< tt) (λ e. n (e .0)) (λ e. let z = e .1 in omega arith))
+          (λ j a e. rw e (K .left-next (rw e at (at-l j a))) ∙ sym (first-none m))
+          (row-left s cap l (x ∷ m) noSlot noSlot old)
+
+      row-m : Row t cap (endOr noSlot l) m noSlot
+      row-m =
+          row-prev s t cap m (x .slot) (endOr noSlot l) noSlot once-m
+          (λ j a. K .others j NEXT (at-m j a) (lit< tt) (λ e. not-last l j (at-m j a) (λ b. l-not-m j b a) (e .0)) (λ e. let z = e .1 in omega arith))
+          (λ j a n. K .others j PREV (at-m j a) (lit< tt) (λ e. let z = e .1 in omega arith) (λ e. n (e .0)))
+          (λ j a e. rw e (K .right-prev (rw e at (at-m j a))) ∙ sym (end-last l))
+          (row-right s cap l (x ∷ m) noSlot noSlot old .1)
+
+      row : Row t cap noSlot (l ++ m) noSlot
+      row = row-both t cap l m noSlot noSlot row-l row-m
+
+      firsts : (l ≡ []) ⊎ (lastSlot l < cap) → head t FIRST ≡ firstSlot (l ++ m)
+      firsts (inl e) = let h : cap ≤ lastSlot l = rw e few in K .left-end h ∙ rw e
+      firsts (inr h) = K .first-kept h ∙ c .first-is ∙ sym (first-same l h)
+
+      lasts : (m ≡ []) ⊎ (firstSlot m < cap) → head t LAST ≡ lastSlot (l ++ m)
+      lasts (inl e) = let h : cap ≤ firstSlot m = rw e few in K .right-end h ∙ rw (e, append-nil l)
+      lasts (inr h) = K .last-kept h ∙ c .last-is ∙ sym (last-same m h)
