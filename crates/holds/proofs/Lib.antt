@@ -20,3 +20,6 @@ pub mod TurnedOnce
 pub mod AnyDepth
 pub mod Segments
 pub mod Linked
+pub mod Stack
+pub mod Freed
+pub mod Valued

@@ -1,0 +1,80 @@
+-- Taking a slot from the free stack and giving one back, on a store whose stack holds a free list.
+-- A reader may rely on: the answers of crate `arena` are the list's first handle, and the note by the generation; what is written
+-- is told by Only, so that the other groups stay.
+use Prim.Native.Nat.{ℕ, zero, suc, _+_, _-_, _≤_, _<_}
+use mathlib.Core.Path.{_≡_, refl, sym, ap, _∙_}
+use mathlib.Core.Logic.{_⊎_, inl, inr}
+use mathlib.Core.List.{List, [], _∷_}
+use native.Mathlib.Decide.{ℕ-discrete}
+use native.Mathlib.Omega.{arith}
+use borrow.Author.Tests.{lt-ltb, le-ltb, lt-leb}
+use lib.Dec.{lit<}
+use lib.ListN.{length}
+use Rattle.handle.specs.Numbers.{noSlot}
+use Rattle.arena.specs.Words.{Room, headWords, fields, field, put, head, putHead, KEY, LEFT, RIGHT, RANK, BACK, PREV, NEXT, GENERATION, VALUE, STACK, TOP, HEIGHT}
+use Rattle.arena.specs.Laying.{unlinked, blankOf}
+use Rattle.arena.specs.Slots.{handleOf, foundAt, peekFrom, peekSlot, popped, takeSlot, pushed, freeWith, freeSlot}
+use Rattle.arena.specs.declared.slots.Taken as T
+use Rattle.arena.specs.declared.slots.Freed as F
+use Rattle.arena.proofs.Laws.{lit≢, length-put, length-putHead, field-at, field-same, field-off, field-slot, head-put, head-same, field-putHead}
+use Rattle.wavl.specs.Lists.{All, In}
+use Rattle.wavl.proofs.Lists.{all-in}
+use Rattle.rules.specs.Queue.{Handle, handle}
+use Rattle.rules.specs.Sound.{freeSlots, Under}
+use Rattle.holds.specs.Free.{Blank, FreeAt, FreeWords, FreeStack, Retired}
+use Rattle.holds.specs.Writes.{Only}
+use Rattle.holds.proofs.Writes.{only-trans, only-put, only-putHead}
+use Rattle.holds.proofs.Groups.{free-words-stay, blank-stays}
+
+-- "no slot is free"
+pub peek-none : (s : List ℕ) (cap : ℕ) → FreeStack s cap [] → peekSlot s cap ≡ T.the-variants.Full
+unfolding peekSlot peekFrom
+peek-none s cap w = rw (w .height)
+
+module _ (s : List ℕ) (cap : ℕ) (h : Handle) (l : List Handle) (few : suc (length l) ≤ cap) (low : h .slot < cap) (w : FreeStack s cap (h ∷ l)) where
+  -- the list's first handle
+  pub peek-first : peekSlot s cap ≡ T.the-variants.At (handleOf (h .slot) (h .generation))
+  unfolding peekSlot peekFrom foundAt
+  peek-first =
+      let a : 1 ≤ suc (length l) = omega arith in
+      let m : suc (length l) - 1 ≡ length l = omega arith in
+      rw (w .height, le-ltb (suc (length l)) 1 a, le-ltb cap (suc (length l)) few, m, w .stacked .0 .stack-is, lt-leb cap (h .slot) low, w .stacked .0 .generation-is)
+
+  pub take-first : takeSlot s cap ≡ (popped s cap (length l), T.the-variants.At (handleOf (h .slot) (h .generation)))
+  unfolding takeSlot
+  take-first = let m : suc (length l) - 1 ≡ length l = omega arith in rw (peek-first, w .height, m)
+
+module _ (s : List ℕ) (cap p : ℕ) (W : ℕ → ℕ → Type 0) (H : ℕ → Type 0) where
+  -- the stack's top place and its height
+  pub popped-only : p < cap → W p STACK → H HEIGHT → Only s (popped s cap p) cap W H
+  unfolding popped
+  popped-only l w h = only-trans cap W H s (put s cap p STACK noSlot) _ (only-put cap W H s p STACK noSlot l (lit< tt) w) (only-putHead cap W H _ HEIGHT p (lit< tt) h)
+
+-- the place p of the stack, or its height
+abbrev pub PlaceOf : ℕ → ℕ → ℕ → Type 0
+PlaceOf p j g = (j ≡ p) × (g ≡ STACK)
+
+abbrev pub IsHeight : ℕ → Type 0
+IsHeight h = h ≡ HEIGHT
+
+-- the rest of the list, after its first handle is taken
+pub pop-rest : (s : List ℕ) (cap : ℕ) (h : Handle) (l : List Handle) → Room s cap → suc (length l) ≤ cap → All (Under cap) (freeSlots l)
+    → FreeStack s cap (h ∷ l) → FreeStack (popped s cap (length l)) cap l
+unfolding popped
+pop-rest s cap h l room few low w =
+    record {
+      height = head-same (put s cap p STACK noSlot) HEIGHT p (lit< tt) (let e = length-put s cap p STACK noSlot in omega arith);
+      stacked = free-words-stay s (popped s cap p) cap (PlaceOf p) IsHeight o l (omega arith) low (λ j x e. let z = e .0 in omega arith) (λ j x g y e. let z = e .1 in omega arith) (w .stacked .1);
+      unused = λ j x y. go j x y (ℕ-discrete j p);
+    }
+  where
+    p : ℕ
+    p = length l
+
+    o : Only s (popped s cap p) cap (PlaceOf p) IsHeight
+    o = popped-only s cap p (PlaceOf p) IsHeight few (refl, refl) refl
+
+    go : (j : ℕ) → length l ≤ j → j < cap → Dec (j ≡ p) → field (popped s cap p) cap j STACK ≡ noSlot
+    go j x y (yes e) =
+        field-putHead (put s cap p STACK noSlot) HEIGHT p (lit< tt) cap j STACK y (lit< tt) ∙ rw e (field-same s cap p STACK noSlot few (lit< tt) room)
+    go j x y (no e) = o .slots j STACK y (lit< tt) (λ z. e (z .0)) ∙ w .unused j (omega arith) y

@@ -1,0 +1,93 @@
+-- A value replaced: the word VALUE of a live slot is written, and the store holds the queue with the new value.
+-- A reader may rely on: new-value, for the node of any entry.
+use Prim.Native.Nat.{ℕ, _≤_, _<_}
+use mathlib.Core.Path.{_≡_, refl, sym, ap, _∙_}
+use mathlib.Core.Logic.{_⊎_, inl, inr}
+use mathlib.Core.List.{List, [], _∷_, _++_}
+use native.Mathlib.Omega.{arith}
+use lib.Dec.{lit<}
+use Rattle.arena.specs.Words.{field, put, KEY, GENERATION, VALUE, STACK}
+use Rattle.arena.proofs.Laws.{field-same}
+use Rattle.wavl.specs.Lists.{All, In, Differ, Once}
+use Rattle.wavl.specs.Entry.{Entry, revalued, slots}
+use Rattle.wavl.specs.Tree.{Tree, fork, inorder}
+use Rattle.wavl.specs.Way.{Way, plug, before, after}
+use Rattle.wavl.proofs.Lists.{all-left, all-right, all-both, all-in, in-left, in-right, below-one, above-one}
+use Rattle.wavl.proofs.Rising.{node-around}
+use Rattle.rules.specs.Queue.{Queue, entries}
+use Rattle.rules.specs.Sound.{freeSlots, usedSlots, Under}
+use Rattle.rules.proofs.Lists.{slots-put}
+use Rattle.holds.specs.Ends.{firstSlot, lastSlot}
+use Rattle.holds.specs.Chain.{Chain, ChainWords}
+use Rattle.holds.specs.Entries.{EntryWords, AllEntries}
+use Rattle.holds.specs.Holds.{Words}
+use Rattle.holds.specs.Writes.{Only}
+use Rattle.holds.proofs.Parts.{Separate, used-few, live-low, free-low, free-not-live, room-of}
+use Rattle.holds.proofs.Trees.{LinkField}
+use Rattle.holds.proofs.Ways.{unplugged, plugged}
+use Rattle.holds.proofs.Writes.{only-put}
+use Rattle.holds.proofs.Groups.{tree-stays, chain-stays, entries-stay, entry-stays, stack-stays, all-retired-stay, unused-stays}
+use Rattle.holds.proofs.Reshaped.{header-stays, withTree}
+
+-- the chain's words do not see values
+module _ (s : List ℕ) (cap v : ℕ) (x : Entry) (m : List Entry) where
+  first-alike : (l : List Entry) → firstSlot (l ++ (x ∷ m)) ≡ firstSlot (l ++ (revalued v x ∷ m))
+  first-alike [] = refl
+  first-alike (e ∷ l) = refl
+
+  last-alike : (l : List Entry) → lastSlot (l ++ (x ∷ m)) ≡ lastSlot (l ++ (revalued v x ∷ m))
+  last-alike [] = go m
+    where
+      go : (m : List Entry) → lastSlot (x ∷ m) ≡ lastSlot (revalued v x ∷ m)
+      go [] = refl
+      go (e ∷ m) = refl
+  last-alike (e ∷ []) = last-alike []
+  last-alike (e ∷ (f ∷ l)) = last-alike (f ∷ l)
+
+  chain-alike : (l : List Entry) (p : ℕ) → Chain s cap p (l ++ (x ∷ m)) → Chain s cap p (l ++ (revalued v x ∷ m))
+  chain-alike [] p c = c
+  chain-alike (e ∷ l) p c = (rw (first-alike l) at (c .0), chain-alike l (e .slot) (c .1))
+
+  words-alike : (l : List Entry) → ChainWords s cap (l ++ (x ∷ m)) → ChainWords s cap (l ++ (revalued v x ∷ m))
+  words-alike l c = record { first-is = c .first-is ∙ first-alike l; last-is = c .last-is ∙ last-alike l; chain = chain-alike l _ (c .chain) }
+
+-- the place that is written
+abbrev ValueOf : ℕ → ℕ → ℕ → Type 0
+ValueOf i j g = (j ≡ i) × (g ≡ VALUE)
+
+abbrev None : ℕ → Type 0
+None h = ⊥
+
+module _ {s : List ℕ} {q : Queue} (d : Separate q) (w : Words s q) (a : Tree) (x : Entry) (r : ℕ) (b : Tree) (p : Way) (e : plug (fork a x r b) p ≡ q .tree) (v : ℕ) where
+  abbrev cap : ℕ
+  cap = q .capacity
+
+  abbrev i : ℕ
+  i = x .slot
+
+  abbrev l : List Entry
+  l = before p ++ inorder a
+
+  abbrev m : List Entry
+  m = inorder b ++ after p
+
+  abbrev t : List ℕ
+  t = put s cap i VALUE v
+
+  whole : entries q ≡ l ++ (x ∷ m)
+  whole = ap inorder (sym e) ∙ node-around a x r b p
+
+  whole-new : inorder (plug (fork a (revalued v x) r b) p) ≡ l ++ (revalued v x ∷ m)
+  whole-new = node-around a (revalued v x) r b p
+
+  same-slots : slots (inorder (plug (fork a (revalued v x) r b) p)) ≡ slots (entries q)
+  same-slots = rw (whole, whole-new, slots-put l (revalued v x) m, slots-put l x m)
+
+  live-here : In i (slots (entries q))
+  live-here = rw (whole, slots-put l x m) (in-right i (slots l) (i ∷ slots m) (inl refl))
+
+  low : i < cap
+  low = all-in (Under cap) (slots (entries q)) (live-low d) i live-here
+
+  o : Only s t cap (ValueOf i) None
+  o = only-put cap (ValueOf i) None s i VALUE v low (lit< tt) (refl, refl)
