@@ -12,7 +12,7 @@ use Rattle.wavl.specs.Lists.{All, In, Differ, Once}
 use Rattle.wavl.specs.Entry.{Entry, revalued, slots}
 use Rattle.wavl.specs.Tree.{Tree, fork, inorder}
 use Rattle.wavl.specs.Way.{Way, plug, before, after}
-use Rattle.wavl.proofs.Lists.{all-left, all-right, all-both, all-in, in-left, in-right, below-one, above-one}
+use Rattle.wavl.proofs.Lists.{all-left, all-right, all-both, all-in, in-left, in-right, below-one, above-one, pairwise-left}
 use Rattle.wavl.proofs.Rising.{node-around}
 use Rattle.rules.specs.Queue.{Queue, entries}
 use Rattle.rules.specs.Sound.{freeSlots, usedSlots, Under}
@@ -91,3 +91,45 @@ module _ {s : List ℕ} {q : Queue} (d : Separate q) (w : Words s q) (a : Tree) 
 
   o : Only s t cap (ValueOf i) None
   o = only-put cap (ValueOf i) None s i VALUE v low (lit< tt) (refl, refl)
+
+  once : Once (slots l ++ (i ∷ slots m))
+  once = rw (whole, slots-put l x m) at (pairwise-left Differ (slots (entries q)) (freeSlots (q .free)) (d .apart))
+
+  lows : All (Under cap) (slots l ++ (i ∷ slots m))
+  lows = rw (whole, slots-put l x m) at (live-low d)
+
+  part : (k : List Entry) → All (Under cap) (slots k) → ((j : ℕ) → In j (slots k) → ¬ (j ≡ i)) → AllEntries s cap k → AllEntries t cap k
+  part k u n = entries-stay s t cap (ValueOf i) None o k u (λ j h. (λ z. let y = z .1 in omega arith, λ z. n j h (z .0), λ z. let y = z .1 in omega arith))
+
+  entries-new : AllEntries t cap (l ++ (revalued v x ∷ m))
+  entries-new =
+      let old : AllEntries s cap (l ++ (x ∷ m)) = rw whole at (w .live) in
+      let rest = all-right (EntryWords s cap) l (x ∷ m) old in
+      let here = rest .0 in
+      all-both (EntryWords t cap) l (revalued v x ∷ m)
+      (part l (all-left (Under cap) (slots l) (i ∷ slots m) lows) (λ j h z. all-in _ (slots l) (below-one Differ (slots l) i (slots m) once) j h z) (all-left (EntryWords s cap) l (x ∷ m) old)) (
+        record {
+          key-is = o .slots i KEY low (lit< tt) (λ z. let y = z .1 in omega arith) ∙ here .key-is;
+          value-is = field-same s cap i VALUE v low (lit< tt) (room-of w);
+          generation-is = o .slots i GENERATION low (lit< tt) (λ z. let y = z .1 in omega arith) ∙ here .generation-is;
+        },
+        part m (all-right (Under cap) (slots l) (i ∷ slots m) lows .1) (λ j h z. all-in _ (slots m) (above-one Differ (slots l) i (slots m) once) j h (sym z)) (rest .1),
+      )
+
+  pub new-value : Words t (withTree (plug (fork a (revalued v x) r b) p) q)
+  new-value =
+      let T = tree-stays s t cap (ValueOf i) None o (q .tree) (λ z. z) (λ j g h k z. let y = z .1 in omega arith) (w .tree) in
+      let P = unplugged t cap p (fork a x r b) (rw e T) in
+      let h = header-stays s t q (ValueOf i) None o (λ n y z. z) (w .header) in
+      record {
+        header = record { passes = h .passes; top-is = h .top-is };
+        tree = plugged t cap p (fork a (revalued v x) r b) (record { below = P .below; hook = P .hook; way = P .way });
+        chain = rw whole-new (words-alike t cap v x m l (rw whole at
+            (chain-stays s t cap (ValueOf i) None o (entries q) (live-low d) (λ z. z) (λ z. z) (λ j n. (λ z. let y = z .1 in omega arith, λ z. let y = z .1 in omega arith)) (w .chain))));
+        live = rw whole-new entries-new;
+        free = stack-stays s t cap (ValueOf i) None o (q .free) (let n = used-few d in omega arith) (free-low d) (λ z. z) (λ n z. let y = z .1 in omega arith)
+            (λ j n g y z. free-not-live d j n (rw (z .0) live-here)) (w .free);
+        retired = rw same-slots (all-retired-stay s t cap (ValueOf i) None o (q .top) (usedSlots q)
+            (λ j n g y z. n (in-left j (slots (entries q)) (freeSlots (q .free)) (rw (z .0) live-here))) (w .retired));
+        unused = unused-stays s t cap (ValueOf i) None o (λ n y z. z) (w .unused);
+      }
