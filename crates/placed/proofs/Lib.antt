@@ -1,0 +1,2 @@
+pub mod Hooked
+pub mod Restructured
