@@ -1,2 +1,4 @@
-pub mod Hooked
 pub mod Restructured
+pub mod Turns
+pub mod Climbing
+pub mod Rebalanced
