@@ -2,3 +2,5 @@ pub mod Restructured
 pub mod Turns
 pub mod Climbing
 pub mod Rebalanced
+pub mod Hanging
+pub mod Hung
