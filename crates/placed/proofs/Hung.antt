@@ -69,10 +69,10 @@ module _ {s : List ℕ} {q : Queue} (dq : Separate q) (w : Words s q) (h : Handl
   abbrev pub leafStore : List ℕ
   leafStore = leafed takenStore cap i k v (parent p)
 
-  few : cap ≤ noSlot
+  pub few : cap ≤ noSlot
   few = few-slots w
 
-  old : entries q ≡ before p ++ after p
+  pub old : entries q ≡ before p ++ after p
   old = ap inorder (sym e) ∙ empty-place-order p
 
   now : inorder (plug (leaf x) p) ≡ before p ++ (x ∷ after p)
@@ -83,13 +83,13 @@ module _ {s : List ℕ} {q : Queue} (dq : Separate q) (w : Words s q) (h : Handl
   unfolding freeSlots
   free-parts = rw free at (free-low dq)
 
-  low : i < cap
+  pub low : i < cap
   low = free-parts .0
 
-  places : suc (length rest) ≤ cap
+  pub places : suc (length rest) ≤ cap
   places = let u = used-few dq in let z : length (q .free) ≡ suc (length rest) = ap length free in omega arith
 
-  not-live : ¬ (In i live)
+  pub not-live : ¬ (In i live)
   unfolding freeSlots
   not-live = free-not-live dq i (rw free (inl refl))
 

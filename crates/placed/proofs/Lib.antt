@@ -4,3 +4,5 @@ pub mod Climbing
 pub mod Rebalanced
 pub mod Hanging
 pub mod Hung
+pub mod Beside
+pub mod Added
