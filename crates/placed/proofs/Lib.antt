@@ -6,3 +6,5 @@ pub mod Hanging
 pub mod Hung
 pub mod Beside
 pub mod Added
+pub mod Swapped
+pub mod Normal

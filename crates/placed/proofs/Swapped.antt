@@ -1,0 +1,40 @@
+-- A replacement, and a refusal that changes nothing, on a store that holds a queue.
+-- A reader may rely on: swaps: the old value and the kept handle are answered, and the store holds the queue with the new value.
+use Prim.Native.Nat.{ℕ, _<_}
+use mathlib.Core.Path.{_≡_, refl, sym, ap, _∙_}
+use mathlib.Core.List.{List, _++_}
+use Rattle.handle.specs.Numbers.{refusalNumber}
+use Rattle.handle.specs.declared.Refusal.{Refusal}
+use Rattle.arena.specs.Words.{field, GENERATION, VALUE}
+use Rattle.insert.specs.Place.{replaced}
+use Rattle.insert.specs.declared.place.Inserted as I
+use Rattle.wavl.specs.Entry.{Entry}
+use Rattle.wavl.specs.Tree.{Tree, fork}
+use Rattle.wavl.specs.Way.{Way, plug, replaceAt}
+use Rattle.rules.specs.Queue.{Queue}
+use Rattle.rules.specs.Answers.{Inserted, notInserted}
+use Rattle.rules.specs.Insert.{swapAt}
+use Rattle.rules.specs.Sound.{Sound}
+use Rattle.holds.specs.Holds.{Holds, Words}
+use Rattle.holds.proofs.Parts.{sound-of, words-of, holds-of, separate-of}
+use Rattle.holds.proofs.Live.{live-entry, spot-in}
+use Rattle.holds.proofs.Valued.{new-value}
+use Rattle.placed.specs.Meaning.{Answers, Inserts}
+
+-- a sound queue's words make a store that holds it
+pub inserts : {r : List ℕ × I.Inserted} {m : Inserted × Queue} → Sound (m .1) → Answers r m → Inserts r m
+inserts d a = record { answer = a .answer; holds = holds-of d (a .words) }
+
+module _ {s : List ℕ} {q : Queue} (k : Holds s q) where
+  abbrev cap : ℕ
+  cap = q .capacity
+
+  pub refuses : (n : Refusal) → Answers (s, I.the-variants.Refused n) (notInserted (refusalNumber n), q)
+  refuses n = record { answer = refl; words = words-of k }
+
+  pub swaps : (value : ℕ) (a : Tree) (x : Entry) (r : ℕ) (b : Tree) (p : Way) → plug (fork a x r b) p ≡ q .tree
+      → Answers (replaced s cap (x .slot) value) (swapAt value a x r b p q)
+  unfolding replaced replaceAt
+  swaps value a x r b p e =
+      let w = live-entry k x (spot-in k a x r b p e) in
+      record { answer = rw (w .generation-is, w .value-is); words = new-value (separate-of (sound-of k)) (words-of k) a x r b p e value }
