@@ -3,11 +3,9 @@ use Prim.Native.Nat.{ℕ, _≤_, _<_}
 use mathlib.Core.Path.{refl}
 use mathlib.Core.List.{List}
 use native.Mathlib.Omega.{arith}
-use Rattle.handle.specs.Numbers.{noSlot}
-use Rattle.arena.specs.Words.{put, LEFT, BACK, ROOT}
+use Rattle.arena.specs.Words.{put, LEFT, BACK}
 use Rattle.wavl.specs.Lists.{In}
 use Rattle.tree.specs.Links.{sideOf, withBack, withChild, relinked, withNode}
-use Rattle.holds.specs.Writes.{Only}
 use Rattle.holds.proofs.Writes.{only-none, only-trans, only-put, only-back, only-child, only-node}
 use Rattle.taken.specs.Kept.{TreePlace, AtRoot, TreeOnly}
 use Rattle.taken.proofs.Steps.{side-small}

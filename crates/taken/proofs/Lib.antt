@@ -3,3 +3,7 @@ pub mod Kept
 pub mod Places
 pub mod Turns
 pub mod Twice
+pub mod Lowered
+pub mod Turning
+pub mod Climbing
+pub mod Climbs

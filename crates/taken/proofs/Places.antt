@@ -9,20 +9,20 @@ use native.Mathlib.Omega.{arith}
 use borrow.Author.Tests.{lt-ltb, le-ltb, eq-eqb, ne-eqb}
 use lib.Dec.{lit<}
 use Rattle.handle.specs.Numbers.{noSlot}
-use Rattle.arena.specs.Words.{Room, fields, field, head, LEFT, RIGHT, RANK, BACK, ROOT}
+use Rattle.arena.specs.Words.{Room, field, head, LEFT, RIGHT, RANK, BACK, ROOT}
 use Rattle.arena.proofs.Laws.{field-same, head-same}
 use Rattle.wavl.specs.Lists.{In}
 use Rattle.wavl.specs.Entry.{Entry}
-use Rattle.wavl.specs.Tree.{Side, left, right, Tree, tip, fork, node}
+use Rattle.wavl.specs.Tree.{Side, left, right, Tree, node}
 use Rattle.wavl.specs.Way.{step, Way, plug}
-use Rattle.tree.specs.Links.{sideOf, withBack, withChild, relinked}
+use Rattle.tree.specs.Links.{sideOf, withChild, relinked}
 use Rattle.holds.specs.Ends.{topSlot, number}
 use Rattle.holds.specs.Links.{Links, TreeWords}
-use Rattle.holds.specs.Ways.{parent, Hook, Half, LinksWay}
+use Rattle.holds.specs.Ways.{parent, Hook, LinksWay}
 use Rattle.holds.specs.Writes.{Only}
-use Rattle.holds.proofs.Has.{Has, Distinct, apart, has-top, not-top}
+use Rattle.holds.proofs.Has.{Has, Distinct, apart, not-top}
 use Rattle.holds.proofs.Trees.{number-small, LinkField, SameLinks, links-keep, slot-low, carry}
-use Rattle.holds.proofs.Ways.{Parted, plugged, distinct-in, HasWay, has-way, way-apart, above-apart}
+use Rattle.holds.proofs.Ways.{Parted, plugged, distinct-in, HasWay, above-apart}
 use Rattle.holds.proofs.Writes.{only-trans, only-child, only-weaken}
 use Rattle.taken.specs.Kept.{TreePlace, AtRoot, TreeOnly}
 use Rattle.taken.proofs.Steps.{touch-relinked}

@@ -1,23 +1,22 @@
 -- The steps of crate `tree` on words that hold trees: which slot a step touches, and what it writes there.
 -- A reader may rely on: a step to "no slot" touches no slot at all, so that one law serves both.
 use Prim.Native.Nat.{ℕ, _+_, _-_, _≤_, _<_}
-use mathlib.Core.Path.{_≡_, refl, sym, _∙_}
-use mathlib.Core.Bool.{true, false}
+use mathlib.Core.Path.{_≡_, refl, _∙_}
 use mathlib.Core.List.{List}
 use native.Mathlib.Omega.{arith}
-use native.Mathlib.Decide.{decLt, ℕ-discrete}
+use native.Mathlib.Decide.{ℕ-discrete}
 use borrow.Author.Tests.{lt-ltb, le-ltb, eq-eqb, ne-eqb, lt-leb}
 use lib.ListN.{length}
 use Rattle.handle.specs.Numbers.{noSlot}
 use Rattle.arena.specs.Words.{Room, fields, field, put, LEFT, RIGHT, RANK, BACK}
-use Rattle.arena.proofs.Laws.{length-put, field-same, field-off, field-slot}
-use Rattle.wavl.specs.Tree.{Side, left, right, other, Tree, tip, fork, node, rank}
+use Rattle.arena.proofs.Laws.{length-put, field-same, field-off}
+use Rattle.wavl.specs.Tree.{Tree, tip, fork, rank}
 use Rattle.tree.specs.Links.{rankOf, sideOf, withBack, withChild, relinked, withNode}
-use Rattle.holds.specs.Ends.{topSlot, number}
+use Rattle.holds.specs.Ends.{topSlot}
 use Rattle.holds.specs.Links.{Node, Links}
 use Rattle.holds.specs.Writes.{Only}
 use Rattle.holds.proofs.Has.{Distinct}
-use Rattle.holds.proofs.Trees.{LinkField, SameLinks, Touch, links-back}
+use Rattle.holds.proofs.Trees.{Touch, links-back}
 use Rattle.holds.proofs.Writes.{only-put, only-back, only-child, only-node}
 use Rattle.holds.proofs.Groups.{touches}
 

@@ -1,24 +1,23 @@
 -- The two rotations of a removal in the words, at any depth: with the tree that hung at a place, its rotation hangs there
 -- afterwards. A reader may rely on: one law over the side for each, with nothing written but that tree's links and its hook.
-use Prim.Native.Nat.{ℕ, _+_, _-_, _≤_, _<_}
-use mathlib.Core.Path.{_≡_, refl, sym, _∙_}
+use Prim.Native.Nat.{ℕ, _≤_, _<_}
+use mathlib.Core.Path.{_≡_, refl}
 use mathlib.Core.Logic.{_⊎_, inl, inr}
-use mathlib.Core.List.{List, [], _∷_}
+use mathlib.Core.List.{List}
 use native.Mathlib.Omega.{arith}
 use Rattle.handle.specs.Numbers.{noSlot}
-use Rattle.arena.specs.Words.{Room, field, LEFT, RIGHT, RANK, BACK}
+use Rattle.arena.specs.Words.{Room}
 use Rattle.wavl.specs.Entry.{Entry}
-use Rattle.wavl.specs.Tree.{Side, left, right, Tree, tip, fork, node, rank}
-use Rattle.wavl.specs.Way.{step, Way, plug}
+use Rattle.wavl.specs.Tree.{Side, left, Tree, tip, fork, node}
+use Rattle.wavl.specs.Way.{Way, plug}
 use Rattle.tree.specs.Links.{withBack, withNode, relinked}
-use Rattle.lower.specs.Turns.{turnOnce, hung, turnTwiceWith}
 use Rattle.holds.specs.Ends.{topSlot, number}
 use Rattle.holds.specs.Links.{Node, Links, TreeWords}
-use Rattle.holds.specs.Ways.{parent, LinksWay}
+use Rattle.holds.specs.Ways.{parent}
 use Rattle.holds.specs.Writes.{Only}
-use Rattle.holds.proofs.Has.{Has, Distinct, Apart, apart, has-cases, has-top, has-near, has-far, not-top}
-use Rattle.holds.proofs.Trees.{number-small, LinkField, Touch, opened, closed, slot-low, carry, carry-node}
-use Rattle.holds.proofs.Ways.{Parted, top-node, distinct-in, HasWay, way-apart}
+use Rattle.holds.proofs.Has.{Has, Distinct, Apart, apart, has-cases, has-top, has-near, has-far}
+use Rattle.holds.proofs.Trees.{number-small, opened, closed, slot-low, carry, carry-node}
+use Rattle.holds.proofs.Ways.{Parted, top-node, distinct-in, way-apart}
 use Rattle.holds.proofs.Writes.{only-trans, only-back, only-node}
 use Rattle.taken.proofs.Steps.{touch-back, touch-node, length-back, length-node, node-new, new-back}
 use Rattle.taken.proofs.Places.{HookHead, Inside, NoHead, AtPlace, hung-words, hung-only}
