@@ -37,7 +37,7 @@ use Rattle.taken.proofs.Lowered.{as-node, top-entry, node-other, lowere
 use Rattle.taken.proofs.Climbing.{peak, peak-above, Climbing, Came, climbUp}
 use Rattle.taken.proofs.Turning.{turn-ends, turn-lowers, turn-rotates, turn-lowers-both, turn-rotates-twice}
 
-onward-is : (q : Way) (fuel : ℕ) (t : List ℕ) (cap : ℕ) → onClimbed (upTo q) (λ p2 d2. climbFrom fuel t cap p2 d2) t ≡ climbUp q fuel t cap
+pub onward-is : (q : Way) (fuel : ℕ) (t : List ℕ) (cap : ℕ) → onClimbed (upTo q) (λ p2 d2. climbFrom fuel t cap p2 d2) t ≡ climbUp q fuel t cap
 onward-is [] fuel t cap = refl
 onward-is (step d e r u ∷ q) fuel t cap = refl
 

@@ -7,3 +7,8 @@ pub mod Lowered
 pub mod Turning
 pub mod Climbing
 pub mod Climbs
+pub mod Settled
+pub mod Lifted
+pub mod Standing
+pub mod Filled
+pub mod Ends

@@ -1,0 +1,165 @@
+-- A node set in another's place in the words, at any depth: a free node m takes the links, the rank and the place of i.
+-- A reader may rely on: stands-words: the tree afterwards is the same with m's entry for i's; only i's tree, m and the hook are written.
+use Prim.Native.Nat.{ℕ, _≤_, _<_}
+use mathlib.Core.Path.{_≡_, refl, ap, _∙_}
+use mathlib.Core.Logic.{_⊎_, inl, inr}
+use mathlib.Core.List.{List, _∷_, _++_}
+use native.Mathlib.Omega.{arith}
+use Rattle.handle.specs.Numbers.{noSlot}
+use Rattle.arena.specs.Words.{Room}
+use Rattle.wavl.specs.Lists.{In, Differ}
+use Rattle.wavl.specs.Entry.{Entry, slots}
+use Rattle.wavl.specs.Tree.{left, Tree, fork, inorder}
+use Rattle.wavl.specs.Way.{Way, plug, before, after}
+use Rattle.wavl.proofs.Lists.{all-of}
+use Rattle.wavl.proofs.Rising.{node-around}
+use Rattle.rules.proofs.Lists.{slots-put, once-put, once-drop, in-put, in-drop}
+use Rattle.tree.specs.Links.{withBack, withNode, relinked}
+use Rattle.remove.specs.Lift.{standing, replaced}
+use Rattle.holds.specs.Ends.{topSlot}
+use Rattle.holds.specs.Links.{Node, Links, TreeWords}
+use Rattle.holds.specs.Ways.{parent}
+use Rattle.holds.specs.Writes.{Only}
+use Rattle.holds.proofs.Has.{Has, Distinct, Apart, apart, has-cases, has-top, has-near, has-far}
+use Rattle.holds.proofs.Trees.{carry, carry-node, slot-low}
+use Rattle.holds.proofs.Ways.{Parted, unplugged, distinct-in, HasWay, has-plug, has-way, way-apart}
+use Rattle.holds.proofs.Writes.{only-trans, only-back, only-node}
+use Rattle.taken.specs.Kept.{TreeOnly}
+use Rattle.taken.proofs.Steps.{touch-back, touch-node, length-back, length-node, node-new, new-back}
+use Rattle.taken.proofs.Places.{Inside, NoHead, hung-words, hung-only, tree-only}
+use Rattle.taken.proofs.Turns.{top-has}
+
+module _ (s : List ℕ) (cap : ℕ) (few : cap ≤ noSlot) (room : Room s cap) (a : Tree) (x : Entry) (r : ℕ) (b : Tree) (p : Way)
+    (D : Distinct (plug (fork a x r b) p)) (w : TreeWords s cap (plug (fork a x r b) p)) (e : Entry) (lowm : e .slot < cap)
+    (gone : ¬ (Has (e .slot) (plug (fork a x r b) p))) where
+  abbrev i : ℕ
+  i = x .slot
+
+  abbrev m : ℕ
+  m = e .slot
+
+  abbrev old : Tree
+  old = fork a x r b
+
+  abbrev new : Tree
+  new = fork a e r b
+
+  W : Parted s cap old p
+  W = unplugged s cap p old w
+
+  A : Apart a i b
+  A = apart a x r b left (distinct-in p old D)
+
+  outside : ¬ (Has m old)
+  outside h = gone (has-plug m p old h)
+
+  not-a : ¬ (Has m a)
+  not-a h = outside (has-near a x r b left m h)
+
+  not-b : ¬ (Has m b)
+  not-b h = outside (has-far a x r b left m h)
+
+  abbrev s1 : List ℕ
+  s1 = withNode s cap 0 m (parent p) (topSlot a) (topSlot b) r
+
+  abbrev s2 : List ℕ
+  s2 = withBack s1 cap (topSlot a) m
+
+  abbrev s3 : List ℕ
+  s3 = withBack s2 cap (topSlot b) m
+
+  abbrev pub stood : List ℕ
+  stood = relinked s3 cap (parent p) i m
+
+  pub stands-is : replaced s cap i m ≡ stood
+  unfolding replaced standing
+  stands-is = rw (W .below .0 .near-is, W .below .0 .far-is, W .below .0 .back-is, W .below .0 .rank-is)
+
+  room1 : Room s1 cap
+  room1 = rw (length-node s cap 0 m (parent p) (topSlot a) (topSlot b) r) room
+
+  room2 : Room s2 cap
+  room2 = rw (length-back s1 cap (topSlot a) m) room1
+
+  -- the first write leaves a tree without m; the others one apart from a, or from b
+  first : (y : Tree) (back : ℕ) → ¬ (Has m y) → Links s cap back y → Links s1 cap back y
+  first y back n l = carry s s1 cap m (touch-node s cap 0 m (parent p) (topSlot a) (topSlot b) r (omega arith) lowm) y back n l
+
+  apart-from : (y : Tree) (t : List ℕ) (z : Tree) (back : ℕ) → ((j : ℕ) → Has j y → ¬ (Has j z)) → Links t cap back z → Links (withBack t cap (topSlot y) m) cap back z
+  apart-from y t z back n l =
+      carry t (withBack t cap (topSlot y) m) cap (topSlot y) (touch-back t cap (topSlot y) m) z back
+      (λ h. n (topSlot y) (top-has cap y few (slot-low t cap z back l (topSlot y) h)) h) l
+
+  node-past : (y : Tree) (t : List ℕ) → ¬ (Has m y) → Node t cap 0 (parent p) (topSlot a) m r (topSlot b)
+      → Node (withBack t cap (topSlot y) m) cap 0 (parent p) (topSlot a) m r (topSlot b)
+  node-past y t n k =
+      carry-node t (withBack t cap (topSlot y) m) cap (topSlot y) (touch-back t cap (topSlot y) m) 0 (parent p) (topSlot a) m r (topSlot b) (omega arith)
+      (λ z. n (rw (← z) at (top-has cap y few (rw z at lowm)))) k
+
+  links : Links s3 cap (parent p) new
+  links = (
+    node-past b s2 not-b (node-past a s1 not-a (node-new s cap 0 (parent p) (topSlot a) m r (topSlot b) (omega arith) room lowm)),
+    apart-from b s2 a m (λ j h k. A .both j k h) (new-back s1 cap a i m room1 (A .in-near) (first a i not-a (W .below .1))),
+    new-back s2 cap b i m room2 (A .in-far) (apart-from a s1 b i (A .both) (first b i not-b (W .below .2))),
+  )
+
+  abbrev S : ℕ → Type 0
+  S j = Has j old ⊎ (j ≡ m)
+
+  off : (j : ℕ) → HasWay j p → ¬ (S j)
+  off j h (inl k) = way-apart p old D j k h
+  off j h (inr k) = gone (rw k at (has-way j p old h))
+
+  only : Only s s3 cap (Inside S) NoHead
+  only =
+      only-trans cap (Inside S) NoHead s s1 s3
+      (only-node cap (Inside S) NoHead s 0 m (parent p) (topSlot a) (topSlot b) r (omega arith) lowm (λ g y z. (inr refl, record { from = y; to = z })))
+      (only-trans cap (Inside S) NoHead s1 s2 s3
+      (only-back cap (Inside S) NoHead s1 (topSlot a) m (λ l. (inl (has-near a x r b left (topSlot a) (top-has cap a few l)), record { from = omega arith; to = omega arith })))
+      (only-back cap (Inside S) NoHead s2 (topSlot b) m (λ l. (inl (has-far a x r b left (topSlot b) (top-has cap b few l)), record { from = omega arith; to = omega arith }))))
+
+  within : (j : ℕ) → Has j new → S j
+  within j h = go (has-cases a e r b left j h)
+    where
+      go : (j ≡ m) ⊎ (Has j a ⊎ Has j b) → S j
+      go (inl k) = inr k
+      go (inr (inl k)) = inl (has-near a x r b left j k)
+      go (inr (inr k)) = inl (has-far a x r b left j k)
+
+  pub stands-words : TreeWords stood cap (plug new p)
+  stands-words = hung-words s s3 cap few S p old new room only W D (has-top a x r b left i refl) off within links
+
+  pub stands-only : (l : List ℕ) → ((j : ℕ) → Has j (plug old p) → In j l) → In m l → TreeOnly s stood cap l
+  stands-only l f h =
+      tree-only s stood cap S p l (hung-only s s3 cap few S p old new room only W D (has-top a x r b left i refl) off within links)
+      go (λ j k. f j (has-way j p old k))
+    where
+      go : (j : ℕ) → S j → In j l
+      go j (inl k) = f j (has-plug j p old k)
+      go j (inr k) = rw k h
+
+  -- the slots afterwards
+  abbrev front : List ℕ
+  front = slots (before p ++ inorder a)
+
+  abbrev rear : List ℕ
+  rear = slots (inorder b ++ after p)
+
+  around-is : (z : Entry) → slots (inorder (plug (fork a z r b) p)) ≡ front ++ (z .slot ∷ rear)
+  around-is z = ap slots (node-around a z r b p) ∙ slots-put (before p ++ inorder a) z (inorder b ++ after p)
+
+  pub stands-distinct : Distinct (plug new p)
+  stands-distinct =
+      rw (around-is e) (once-put front m rear
+      (all-of (Differ m) (front ++ rear) (λ j k z. gone (rw (around-is x) (in-put m front i rear (rw (← z) at k)))))
+      (once-drop front i rear (rw (around-is x) at D)))
+
+  pub stands-member : (j : ℕ) → Has j (plug new p) → (j ≡ m) ⊎ Has j (plug old p)
+  stands-member j h = go (in-drop j front m rear (rw (around-is e) at h))
+    where
+      go : (j ≡ m) ⊎ In j (front ++ rear) → (j ≡ m) ⊎ Has j (plug old p)
+      go (inl k) = inl k
+      go (inr k) = inr (rw (around-is x) (in-put j front i rear k))
+
+  pub stands-room : Room stood cap
+  stands-room = rw (stands-only (m ∷ slots (inorder (plug old p))) (λ j h. inr h) (inl refl) .long) room
