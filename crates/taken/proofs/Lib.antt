@@ -12,3 +12,4 @@ pub mod Lifted
 pub mod Standing
 pub mod Filled
 pub mod Ends
+pub mod TakesOut
