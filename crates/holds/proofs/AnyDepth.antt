@@ -1,25 +1,25 @@
 -- A subtree replaced at any depth by another with the same entries: the whole tree's words, and that nothing else was written.
 -- A reader may rely on: steps of a climb follow one another by regrown-trans; `reshaped` then carries all other groups over.
-use Prim.Native.Nat.{ℕ, _+_, _≤_, _<_}
-use mathlib.Core.Path.{_≡_, refl, sym, ap, _∙_}
-use mathlib.Core.Logic.{inl, inr}
+use Prim.Native.Nat.{ℕ, _≤_, _<_}
+use mathlib.Core.Path.{_≡_, refl}
+use mathlib.Core.Logic.{inl}
 use mathlib.Core.List.{List, [], _∷_}
 use native.Mathlib.Omega.{arith}
 use lib.Dec.{lit<}
 use Rattle.handle.specs.Numbers.{noSlot}
-use Rattle.arena.specs.Words.{Room, head, LEFT, BACK, ROOT}
+use Rattle.arena.specs.Words.{Room, head, ROOT}
 use Rattle.tree.specs.Links.{relinked, withChild}
 use Rattle.wavl.specs.Lists.{In}
 use Rattle.wavl.specs.Entry.{slots}
-use Rattle.wavl.specs.Tree.{Side, left, Tree, tip, fork, inorder}
+use Rattle.wavl.specs.Tree.{left, Tree, tip, fork, inorder}
 use Rattle.wavl.specs.Way.{step, Way, plug}
 use Rattle.wavl.proofs.Order.{IsFork, plug-same}
 use Rattle.holds.specs.Ends.{topSlot, number}
 use Rattle.holds.specs.Links.{Links, TreeWords}
-use Rattle.holds.specs.Ways.{parent, sideIn, LinksWay}
+use Rattle.holds.specs.Ways.{parent, sideIn}
 use Rattle.holds.specs.Writes.{Only}
 use Rattle.holds.proofs.Has.{Has, Distinct, has-top}
-use Rattle.holds.proofs.Trees.{number-small, LinkField, LinkOf, SameLinks, slot-low}
+use Rattle.holds.proofs.Trees.{number-small, LinkOf, SameLinks, slot-low}
 use Rattle.holds.proofs.Ways.{unplugged, HasWay, has-plug, has-way, way-apart}
 use Rattle.holds.proofs.Writes.{only-trans, only-weaken, only-child, only-room}
 use Rattle.holds.proofs.Groups.{same-links}

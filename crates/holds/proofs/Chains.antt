@@ -1,17 +1,15 @@
 -- The chain of the words around an entry, and what a step and an end mean on a store that holds a queue.
 -- A reader may rely on: step-means and end-means, over the side; chain-at, for an entry anywhere in the chain.
-use Prim.Native.Nat.{ℕ, zero, suc, _+_, _≤_, _<_}
+use Prim.Native.Nat.{ℕ, _+_, _<_}
 use mathlib.Core.Path.{_≡_, refl, sym, ap, _∙_}
 use mathlib.Core.Logic.{inl, inr}
 use mathlib.Core.List.{List, [], _∷_, _++_}
 use mathlib.Core.Option.{Option, some, none}
-use native.Mathlib.Omega.{arith}
 use Rattle.handle.specs.Numbers.{noSlot}
 use Rattle.handle.specs.declared.Handle as H
-use Rattle.arena.specs.Words.{field, head, PREV, NEXT, FIRST, LAST, GENERATION}
 use Rattle.chain.specs.Steps.{followed, stepFrom, endOf}
 use Rattle.chain.proofs.StepLaws.{follow-none, follow-at}
-use Rattle.wavl.specs.Lists.{In, All, first, last}
+use Rattle.wavl.specs.Lists.{In, first, last}
 use Rattle.wavl.specs.Entry.{Entry, slots}
 use Rattle.wavl.specs.Tree.{Side, left, right, Tree, fork, inorder}
 use Rattle.wavl.specs.Way.{Way, place, before, after, neighbour, plug}
@@ -25,12 +23,12 @@ use Rattle.rules.specs.Look.{standsAt, stepTo, stepSpot}
 use Rattle.rules.proofs.Places.{SpotIs, spot-is}
 use Rattle.rules.proofs.Removing.{live-once}
 use Rattle.holds.specs.Ends.{firstSlot, lastSlot, number}
-use Rattle.holds.specs.Chain.{Between, Chain, ChainWords}
+use Rattle.holds.specs.Chain.{Between, Chain}
 use Rattle.holds.specs.Holds.{Holds}
 use Rattle.holds.specs.Handles.{plain}
 use Rattle.holds.specs.Meanings.{stepMeans}
 use Rattle.holds.proofs.Parts.{sound-of, words-of, few-slots, separate-of, live-low}
-use Rattle.holds.proofs.Live.{live-entry, spot-in}
+use Rattle.holds.proofs.Live.{live-entry}
 
 -- the slot of an end, if there is one
 abbrev pub slotOf : Option Entry → ℕ

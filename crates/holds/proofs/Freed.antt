@@ -1,27 +1,25 @@
 -- A slot given back: blank, on the free stack with its generation raised, or retired at the top generation.
 -- A reader may rely on: free-again and free-last are the two answers of crate `arena`; push-first and retire are their words.
-use Prim.Native.Nat.{ℕ, zero, suc, _+_, _-_, _≤_, _<_}
-use mathlib.Core.Path.{_≡_, refl, sym, ap, _∙_}
-use mathlib.Core.Logic.{_⊎_, inl, inr}
-use mathlib.Core.List.{List, [], _∷_}
-use native.Mathlib.Decide.{ℕ-discrete}
+use Prim.Native.Nat.{ℕ, suc, _+_, _-_, _≤_, _<_}
+use mathlib.Core.Path.{_≡_, refl, _∙_}
+use mathlib.Core.List.{List, _∷_}
 use native.Mathlib.Omega.{arith}
 use borrow.Author.Tests.{lt-ltb, le-ltb}
 use lib.Dec.{lit<}
 use lib.ListN.{length}
 use Rattle.handle.specs.Numbers.{noSlot}
-use Rattle.arena.specs.Words.{Room, headWords, fields, field, put, head, putHead, KEY, LEFT, RIGHT, RANK, BACK, PREV, NEXT, GENERATION, VALUE, STACK, TOP, HEIGHT}
+use Rattle.arena.specs.Words.{Room, field, put, head, KEY, LEFT, RIGHT, RANK, BACK, PREV, NEXT, GENERATION, VALUE, STACK, TOP, HEIGHT}
 use Rattle.arena.specs.Laying.{unlinked, blankOf}
 use Rattle.arena.specs.Slots.{pushed, freeWith, freeSlot}
 use Rattle.arena.specs.declared.slots.Freed as F
-use Rattle.arena.proofs.Laws.{lit≢, length-put, length-putHead, field-at, field-same, field-off, field-slot, head-put, head-same, field-putHead}
+use Rattle.arena.proofs.Laws.{lit≢, length-put, field-at, field-same, field-off, head-same, field-putHead}
 use Rattle.wavl.specs.Lists.{All, In}
 use Rattle.rules.specs.Queue.{Handle, handle}
 use Rattle.rules.specs.Sound.{freeSlots, Under}
-use Rattle.holds.specs.Free.{Blank, FreeAt, FreeWords, FreeStack, Retired}
+use Rattle.holds.specs.Free.{Blank, FreeAt, FreeStack, Retired}
 use Rattle.holds.specs.Writes.{Only}
-use Rattle.holds.proofs.Writes.{only-trans, only-put, only-putHead, only-weaken, only-room}
-use Rattle.holds.proofs.Groups.{free-words-stay, blank-stays}
+use Rattle.holds.proofs.Writes.{only-trans, only-put, only-putHead}
+use Rattle.holds.proofs.Groups.{free-words-stay}
 use Rattle.holds.proofs.Stack.{IsHeight}
 
 -- a slot without an entry

@@ -3,19 +3,18 @@
 use Prim.Native.Nat.{ℕ, zero, suc, _+_, _-_, _≤_, _<_}
 use mathlib.Core.Path.{_≡_, refl, sym, ap, _∙_}
 use mathlib.Core.Logic.{inl, inr}
-use mathlib.Core.List.{List, [], _∷_}
+use mathlib.Core.List.{List}
 use native.Mathlib.Decide.{ℕ-discrete}
 use native.Mathlib.Omega.{arith}
 use lib.Dec.{lit<}
 use lib.ListN.{length, getD}
-use Rattle.handle.specs.Numbers.{noSlot}
-use Rattle.arena.specs.Words.{headWords, fields, field, head, KEY, LEFT, RIGHT, RANK, BACK, PREV, NEXT, GENERATION, VALUE, STACK, CAPACITY, TOP, HEIGHT, FIRST, LAST, ROOT}
+use Rattle.arena.specs.Words.{fields, field, KEY, LEFT, RIGHT, RANK, BACK, PREV, NEXT, GENERATION, VALUE, STACK, CAPACITY, TOP, HEIGHT, FIRST, LAST, ROOT}
 use Rattle.arena.specs.Laying.{Good, Fresh, headerWords, slotWords}
 use Rattle.wavl.specs.Lists.{In}
 use Rattle.wavl.specs.Entry.{slots}
-use Rattle.wavl.specs.Tree.{tip, inorder}
-use Rattle.rules.specs.Queue.{Handle, handle, freshFrom, fresh}
-use Rattle.rules.specs.Sound.{InRange, freeSlots, usedSlots}
+use Rattle.wavl.specs.Tree.{inorder}
+use Rattle.rules.specs.Queue.{freshFrom, fresh}
+use Rattle.rules.specs.Sound.{InRange, freeSlots}
 use Rattle.rules.proofs.Kept.{fresh-sound}
 use Rattle.holds.specs.Free.{Blank, FreeWords}
 use Rattle.holds.specs.Holds.{Holds, Unused}

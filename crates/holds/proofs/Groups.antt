@@ -1,25 +1,24 @@
 -- What writes leave of each group of a queue's words: a group stays where none of its own places is written.
 -- A reader may rely on: one law per group, over any writes; the places that a group has are its premise.
-use Prim.Native.Nat.{ℕ, _+_, _-_, _<_, _≤_}
-use mathlib.Core.Path.{_≡_, refl, sym, ap, _∙_}
-use mathlib.Core.Logic.{_⊎_, inl, inr}
+use Prim.Native.Nat.{ℕ, _-_, _<_, _≤_}
+use mathlib.Core.Path.{_≡_, refl, _∙_}
+use mathlib.Core.Logic.{inl, inr}
 use mathlib.Core.List.{List, [], _∷_}
 use native.Mathlib.Omega.{arith}
 use lib.Dec.{lit<}
 use lib.ListN.{length}
-use Rattle.arena.specs.Words.{headWords, fields, field, head, KEY, LEFT, RIGHT, RANK, BACK, PREV, NEXT, GENERATION, VALUE, STACK, CAPACITY, TOP, HEIGHT, FIRST, LAST, ROOT}
+use Rattle.arena.specs.Words.{field, KEY, LEFT, RIGHT, RANK, BACK, PREV, NEXT, GENERATION, VALUE, STACK, CAPACITY, HEIGHT, FIRST, LAST, ROOT}
 use Rattle.arena.specs.Header.{Passing}
 use Rattle.wavl.specs.Lists.{All, In}
 use Rattle.wavl.specs.Entry.{Entry, slots}
 use Rattle.wavl.specs.Tree.{Tree}
-use Rattle.wavl.specs.Way.{Way}
-use Rattle.rules.specs.Queue.{Handle, Queue}
+use Rattle.rules.specs.Queue.{Handle}
 use Rattle.rules.specs.Sound.{freeSlots, Under}
 use Rattle.holds.specs.Links.{Links, TreeWords}
 use Rattle.holds.specs.Chain.{Chain, ChainWords}
 use Rattle.holds.specs.Entries.{EntryWords, AllEntries}
-use Rattle.holds.specs.Free.{Blank, FreeAt, FreeWords, FreeStack, Retired, AllRetired}
-use Rattle.holds.specs.Holds.{HeaderWords, Unused}
+use Rattle.holds.specs.Free.{Blank, FreeWords, FreeStack, Retired, AllRetired}
+use Rattle.holds.specs.Holds.{Unused}
 use Rattle.holds.specs.Writes.{Only}
 use Rattle.holds.proofs.Has.{Has}
 use Rattle.holds.proofs.Trees.{LinkField, SameLinks, links-keep, Touch, Away}

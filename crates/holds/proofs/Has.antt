@@ -1,16 +1,16 @@
 -- The slots of a tree, as the list in its left-to-right order: members and distinctness, over the side.
 -- A reader may rely on: a restructure keeps the list, so that distinct slots after it are the same fact as before it.
 use Prim.Native.Nat.{ℕ, _≤_, _<_}
-use mathlib.Core.Path.{_≡_, refl, sym, ap, _∙_}
+use mathlib.Core.Path.{_≡_, refl}
 use mathlib.Core.Logic.{_⊎_, inl, inr, ⊎-elim}
 use mathlib.Core.List.{List, [], _∷_, _++_}
 use native.Mathlib.Omega.{arith}
 use native.Mathlib.Decide.{ℕ-discrete}
 use Rattle.handle.specs.Numbers.{noSlot}
-use Rattle.wavl.specs.Lists.{All, In, Differ, Once}
+use Rattle.wavl.specs.Lists.{In, Differ, Once}
 use Rattle.wavl.specs.Entry.{Entry, slots}
 use Rattle.wavl.specs.Tree.{Side, left, right, Tree, tip, fork, node, inorder}
-use Rattle.wavl.proofs.Lists.{all-in, all-of, in-left, in-right, in-cases, below-one, above-one, pairwise-left, pairwise-right, pairwise-across}
+use Rattle.wavl.proofs.Lists.{all-in, in-left, in-right, in-cases, below-one, above-one, pairwise-left, pairwise-right, pairwise-across}
 use Rattle.rules.proofs.Lists.{slots-put}
 use Rattle.holds.specs.Ends.{topSlot}
 

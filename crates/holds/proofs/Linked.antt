@@ -1,7 +1,7 @@
 -- Linking in and out, seen by the chain: an entry put in anywhere, an entry taken out anywhere. One law over the side.
 -- A reader may rely on: chain-in with after-links, before-links or alone-links, and chain-out with joined-unlinks.
-use Prim.Native.Nat.{ℕ, zero, suc, _+_, _-_, _≤_, _<_}
-use mathlib.Core.Path.{_≡_, refl, sym, ap, _∙_}
+use Prim.Native.Nat.{ℕ, _+_, _-_, _≤_, _<_}
+use mathlib.Core.Path.{_≡_, refl, sym, _∙_}
 use mathlib.Core.Logic.{_⊎_, inl, inr}
 use mathlib.Core.List.{List, [], _∷_, _++_, append-nil}
 use native.Mathlib.Omega.{arith}
@@ -12,11 +12,11 @@ use Rattle.chain.specs.Links.{between, joined, linkAlone}
 use Rattle.chain.proofs.Laws.{between-near, between-far, between-at, between-back, between-end, between-field, between-head, between-heads, alone-field, alone-near, alone-end, joined-field, joined-next, joined-prev, joined-first, joined-last, joined-first-kept, joined-last-kept}
 use Rattle.wavl.specs.Lists.{All, In, Differ, Once}
 use Rattle.wavl.specs.Entry.{Entry, slots}
-use Rattle.wavl.proofs.Lists.{all-left, all-right, all-in, in-left, in-right, pairwise-left, pairwise-right, pairwise-across, below-one, above-one, slots-append}
+use Rattle.wavl.proofs.Lists.{all-left, all-right, all-in, pairwise-left, pairwise-right, pairwise-across, below-one, above-one}
 use Rattle.rules.specs.Sound.{Under}
 use Rattle.rules.proofs.Lists.{slots-put}
 use Rattle.holds.specs.Ends.{firstSlot, lastSlot}
-use Rattle.holds.specs.Chain.{Between, Chain, ChainWords}
+use Rattle.holds.specs.Chain.{ChainWords}
 use Rattle.holds.proofs.Chains.{endOr, end-last}
 use Rattle.holds.proofs.Segments.{firstOr, Row, first-none, last-append, last-in-slots, row-of, chain-of, row-left, row-right, row-both, row-next, row-prev}
 

@@ -1,13 +1,13 @@
 -- Live handles on a store that holds a queue: the test of the words is the queue's, and the entry's words are found at the slot.
 -- A reader may rely on: live-is, for every handle; live-entry, for every entry.
 use Prim.Native.Nat.{ℕ, _≤_, _<_}
-use mathlib.Core.Path.{_≡_, refl, sym, ap, _∙_}
+use mathlib.Core.Path.{_≡_, sym, _∙_}
 use mathlib.Core.Logic.{_↔_}
-use mathlib.Core.Bool.{Bool, true, false}
-use mathlib.Core.List.{List, _∷_, _++_}
-use native.Mathlib.Decide.{decLt, ℕ-discrete}
+use mathlib.Core.Bool.{true, false}
+use mathlib.Core.List.{List, _++_}
+use native.Mathlib.Decide.{decLt}
 use native.Mathlib.Omega.{arith}
-use borrow.Author.Tests.{lt-ltb, le-ltb, eq-eqb, ne-eqb, le-leb, lt-leb}
+use borrow.Author.Tests.{le-ltb, eq-eqb, ne-eqb, le-leb, lt-leb}
 use Rattle.handle.specs.declared.Handle as H
 use Rattle.arena.specs.Words.{field, RANK, GENERATION}
 use Rattle.arena.specs.Keys.{signed}
@@ -24,7 +24,7 @@ use Rattle.rules.proofs.Places.{SpotIs, spot-is}
 use Rattle.rules.proofs.Removing.{live-once}
 use Rattle.holds.specs.Handles.{plain, isSpot}
 use Rattle.holds.specs.Entries.{EntryWords}
-use Rattle.holds.specs.Holds.{Holds, Words}
+use Rattle.holds.specs.Holds.{Holds}
 use Rattle.holds.proofs.Parts.{sound-of, words-of}
 use Rattle.holds.proofs.States.{State, live, free, retired, state-of, LiveNode, live-node}
 

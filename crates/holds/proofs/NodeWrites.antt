@@ -1,23 +1,22 @@
 -- The writes of a restructure, seen by the nodes and trees that they touch: a node's own word, a node written whole, a new back link.
 -- A reader may rely on: with carry and carry-node (Trees) for what a write does not touch, these are all the steps of a rotation.
 use Prim.Native.Nat.{ℕ, _+_, _-_, _≤_, _<_}
-use mathlib.Core.Path.{_≡_, refl, sym, ap, _∙_}
+use mathlib.Core.Path.{_≡_, refl, _∙_}
 use mathlib.Core.List.{List}
 use native.Mathlib.Omega.{arith}
 use native.Mathlib.Decide.{decLt}
 use borrow.Author.Tests.{lt-ltb, le-ltb}
 use lib.ListN.{length}
 use lib.Dec.{lit<}
-use Rattle.handle.specs.Numbers.{noSlot}
-use Rattle.arena.specs.Words.{Room, fields, field, put, head, LEFT, RIGHT, RANK, BACK, ROOT}
-use Rattle.arena.proofs.Laws.{length-put, field-same, field-off, field-slot}
+use Rattle.arena.specs.Words.{Room, fields, field, put, LEFT, RIGHT, RANK, BACK}
+use Rattle.arena.proofs.Laws.{length-put, field-same, field-off}
 use Rattle.chain.proofs.Keeps.{room-put}
 use Rattle.tree.specs.Links.{withBack, withNode}
 use Rattle.wavl.specs.Entry.{Entry}
 use Rattle.wavl.specs.Tree.{Side, left, right, Tree, tip, fork, node}
 use Rattle.holds.specs.Ends.{topSlot, number}
 use Rattle.holds.specs.Links.{Node, Links}
-use Rattle.holds.proofs.Has.{Has, Distinct, Apart, apart}
+use Rattle.holds.proofs.Has.{Distinct, apart}
 use Rattle.holds.proofs.Trees.{number-small, opened, closed, Touch, carry, touch-trans}
 use Rattle.holds.proofs.WayWrites.{touch-put}
 

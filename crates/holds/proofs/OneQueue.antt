@@ -1,16 +1,15 @@
 -- A sound store holds exactly one queue: links and words give the tree, the stack gives the free list, the header the rest.
 -- A reader may rely on: one-queue, with no premise but the two relations.
-use Prim.Native.Nat.{ℕ, suc, _≤_, _<_}
-use mathlib.Core.Path.{_≡_, refl, sym, ap, _∙_}
-use mathlib.Core.List.{List, [], _∷_, _++_}
+use Prim.Native.Nat.{ℕ, _≤_, _<_}
+use mathlib.Core.Path.{_≡_, refl, sym, _∙_}
+use mathlib.Core.List.{List, [], _∷_}
 use native.Mathlib.Omega.{arith}
 use lib.ListN.{length}
 use Rattle.handle.specs.Numbers.{noSlot}
-use Rattle.arena.specs.Words.{field, KEY, GENERATION, VALUE, STACK}
 use Rattle.wavl.specs.Entry.{Entry}
 use Rattle.wavl.specs.Tree.{Tree, tip, fork, inorder}
 use Rattle.wavl.proofs.Lists.{all-left, all-right}
-use Rattle.rules.specs.Queue.{Handle, Queue, entries}
+use Rattle.rules.specs.Queue.{Handle, Queue}
 use Rattle.holds.specs.Ends.{topSlot}
 use Rattle.holds.specs.Links.{Links}
 use Rattle.holds.specs.Entries.{EntryWords, AllEntries}

@@ -1,22 +1,20 @@
 -- Holds taken apart into a sound queue and words, and put together again; and the bounds that follow.
 -- A reader may rely on: a proof of a call shows Sound by crate `rules` and Words by the writes, and ends with holds-of.
-use Prim.Native.Nat.{ℕ, zero, suc, _+_, _≤_, _<_}
-use mathlib.Core.Path.{_≡_, refl, sym, ap, _∙_}
-use mathlib.Core.Logic.{inl, inr}
-use mathlib.Core.List.{List, [], _∷_, _++_}
-use native.Mathlib.Decide.{ℕ-discrete}
+use Prim.Native.Nat.{ℕ, _+_, _≤_}
+use mathlib.Core.Path.{_≡_, refl}
+use mathlib.Core.List.{List}
 use native.Mathlib.Omega.{arith}
 use lib.ListN.{length, length-append}
 use Rattle.handle.specs.Numbers.{noSlot}
-use Rattle.arena.specs.Words.{Room, limit, topLimit, head, CAPACITY}
+use Rattle.arena.specs.Words.{Room, limit, topLimit}
 use Rattle.wavl.specs.Lists.{All, In, Differ, Once}
 use Rattle.wavl.specs.Entry.{slots}
 use Rattle.wavl.specs.Tree.{size}
 use Rattle.wavl.proofs.Lists.{all-left, all-right, pairwise-across}
 use Rattle.wavl.proofs.Size.{size-length}
-use Rattle.rules.specs.Queue.{Handle, Queue, entries}
+use Rattle.rules.specs.Queue.{Queue, entries}
 use Rattle.rules.specs.Sound as Sound
-use Rattle.rules.specs.Sound.{InRange, freeSlots, usedSlots, Under, Sound}
+use Rattle.rules.specs.Sound.{freeSlots, usedSlots, Under, Sound}
 use Rattle.holds.specs.Holds.{Holds, Words}
 use Rattle.holds.proofs.Counting.{at-most, length-slots, length-freeSlots}
 

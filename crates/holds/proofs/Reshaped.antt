@@ -1,14 +1,11 @@
 -- A change of the tree's shape and ranks alone: writes to links of live slots and to ROOT leave every other group as it was.
 -- A reader may rely on: after a climb or a restructure the new tree's words are all that is left to show.
 use Prim.Native.Nat.{ℕ, _≤_, _<_}
-use mathlib.Core.Path.{_≡_, refl, sym, ap, _∙_}
-use mathlib.Core.Logic.{inl, inr}
-use mathlib.Core.List.{List, _++_}
+use mathlib.Core.Path.{_≡_, _∙_}
+use mathlib.Core.List.{List}
 use native.Mathlib.Omega.{arith}
 use lib.Dec.{lit<}
-use lib.ListN.{length}
-use Rattle.arena.specs.Words.{head, PREV, TOP, STACK, ROOT}
-use Rattle.wavl.specs.Lists.{In}
+use Rattle.arena.specs.Words.{PREV, TOP, ROOT}
 use Rattle.wavl.specs.Entry.{slots}
 use Rattle.wavl.specs.Tree.{Tree, inorder}
 use Rattle.wavl.proofs.Lists.{in-left}
@@ -18,7 +15,7 @@ use Rattle.holds.specs.Links.{TreeWords}
 use Rattle.holds.specs.Holds.{HeaderWords, Words}
 use Rattle.holds.specs.Writes.{Only}
 use Rattle.holds.proofs.Parts.{Separate, used-few, live-low, free-low, free-not-live}
-use Rattle.holds.proofs.Trees.{LinkField, LinkOf}
+use Rattle.holds.proofs.Trees.{LinkOf}
 use Rattle.holds.proofs.Groups.{passing-stays, unused-stays, chain-stays, entries-stay, stack-stays, all-retired-stay}
 
 abbrev pub IsRoot : ℕ → Type 0

@@ -1,14 +1,13 @@
 -- One store for a queue: two stores of one length that hold the same queue and agree past the needed numbers are the same.
 -- A reader may rely on: every header word and every field of every slot, live, free or retired, follows from the queue.
-use Prim.Native.Nat.{ℕ, zero, suc, _+_, _-_, _≤_, _<_}
-use mathlib.Core.Path.{_≡_, refl, sym, ap, _∙_}
+use Prim.Native.Nat.{ℕ, zero, suc, _-_, _≤_, _<_}
+use mathlib.Core.Path.{_≡_, sym, _∙_}
 use mathlib.Core.Logic.{_⊎_, inl, inr, ⊎-elim}
-use mathlib.Core.List.{List, [], _∷_, _++_}
+use mathlib.Core.List.{List, [], _∷_}
 use native.Mathlib.Decide.{decLt, ℕ-discrete}
 use native.Mathlib.Omega.{arith}
 use lib.ListN.{length, getD}
 use Rattle.arena.specs.Words.{need, headWords, fields, field, head, KEY, LEFT, RIGHT, RANK, BACK, PREV, NEXT, GENERATION, VALUE, STACK, ROOT}
-use Rattle.arena.specs.Agree.{Agree}
 use Rattle.arena.proofs.OneStore.{one-store}
 use Rattle.arena.proofs.FreshStore.{each-field}
 use Rattle.wavl.specs.Lists.{In}
@@ -17,10 +16,10 @@ use Rattle.wavl.specs.Tree.{left, Tree, tip, fork, inorder}
 use Rattle.wavl.proofs.Lists.{all-in, in-cases}
 use Rattle.rules.specs.Queue.{Handle, Queue, entries}
 use Rattle.rules.specs.Sound.{freeSlots, usedSlots}
-use Rattle.holds.specs.Links.{Node, Links}
+use Rattle.holds.specs.Links.{Links}
 use Rattle.holds.specs.Chain.{Chain}
 use Rattle.holds.specs.Entries.{EntryWords}
-use Rattle.holds.specs.Free.{Blank, FreeWords, Retired}
+use Rattle.holds.specs.Free.{Blank, FreeWords}
 use Rattle.holds.specs.Holds.{Holds, Words}
 use Rattle.holds.proofs.Has.{Has, dec-in, has-cases}
 use Rattle.holds.proofs.Parts.{words-of}

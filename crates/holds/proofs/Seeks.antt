@@ -2,28 +2,27 @@
 -- A reader may rely on: seek-is, the answer in slots; seek-means, the answer that crate `rules` gives.
 use Prim.Native.Nat.{ℕ, zero, suc, _+_, _≤_, _<_}
 use mathlib.Core.Path.{_≡_, refl, sym, ap, _∙_}
-use mathlib.Core.List.{List, [], _∷_, _++_}
+use mathlib.Core.List.{List, [], _∷_}
 use mathlib.Core.Option.{some}
 use native.Mathlib.Omega.{arith}
 use lib.ListN.{length}
 use Rattle.handle.specs.Numbers.{noSlot}
-use Rattle.arena.specs.Words.{field, head, KEY, LEFT, GENERATION, ROOT}
+use Rattle.arena.specs.Words.{field, head, KEY, LEFT, ROOT}
 use Rattle.find.specs.declared.Found as F
 use Rattle.find.specs.Seeking.{budget, sideOf, seekFrom, seekModel}
 use Rattle.find.proofs.Laws.{side-less, side-greater, seek-empty, seek-root, seek-equal, seek-beside, seek-down}
-use Rattle.wavl.specs.Lists.{In}
 use Rattle.wavl.specs.Entry.{Entry}
 use Rattle.wavl.specs.Tree.{Side, left, right, Tree, tip, fork, rank, inorder}
 use Rattle.wavl.specs.Way.{step, Way, place}
 use Rattle.wavl.specs.Ranks.{Ranks}
-use Rattle.wavl.specs.Search.{KeyRound, equal, less, greater, keyRound, byKey, find, search, Found, equalTo, nearest, emptyTree, answer}
+use Rattle.wavl.specs.Search.{keyRound, find, search, Found, equalTo, nearest, emptyTree, answer}
 use Rattle.wavl.proofs.Lists.{all-left, all-right}
 use Rattle.wavl.proofs.Order.{IsFork}
 use Rattle.wavl.proofs.Rule.{ranked→ranks}
 use Rattle.wavl.proofs.Size.{rank-le-31}
 use Rattle.wavl.proofs.Rounds.{key-cases}
 use Rattle.wavl.proofs.Reply.{Answers, answer-right}
-use Rattle.rules.specs.Queue.{Queue, entries}
+use Rattle.rules.specs.Queue.{Queue}
 use Rattle.rules.specs.Look.{foundIn, searchFor}
 use Rattle.holds.specs.Ends.{topSlot, number}
 use Rattle.holds.specs.Links.{Links}

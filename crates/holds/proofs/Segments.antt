@@ -1,12 +1,12 @@
 -- A part of the chain between two slots: split, kept, and joined to another slot at either end.
 -- A reader may rely on: only PREV and NEXT of the part's own slots matter.
-use Prim.Native.Nat.{ℕ, _≤_, _<_}
-use mathlib.Core.Path.{_≡_, refl, sym, ap, _∙_}
+use Prim.Native.Nat.{ℕ}
+use mathlib.Core.Path.{_≡_, refl, sym, _∙_}
 use mathlib.Core.Logic.{inl, inr}
 use mathlib.Core.List.{List, [], _∷_, _++_}
 use Rattle.handle.specs.Numbers.{noSlot}
 use Rattle.arena.specs.Words.{field, PREV, NEXT}
-use Rattle.wavl.specs.Lists.{All, In, Once}
+use Rattle.wavl.specs.Lists.{In, Once}
 use Rattle.wavl.specs.Entry.{Entry, slots}
 use Rattle.wavl.proofs.Lists.{all-in}
 use Rattle.holds.specs.Ends.{firstSlot, lastSlot}

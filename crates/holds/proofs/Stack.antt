@@ -1,30 +1,26 @@
 -- Taking a slot from the free stack and giving one back, on a store whose stack holds a free list.
 -- A reader may rely on: the answers of crate `arena` are the list's first handle, and the note by the generation; what is written
 -- is told by Only, so that the other groups stay.
-use Prim.Native.Nat.{ℕ, zero, suc, _+_, _-_, _≤_, _<_}
-use mathlib.Core.Path.{_≡_, refl, sym, ap, _∙_}
-use mathlib.Core.Logic.{_⊎_, inl, inr}
+use Prim.Native.Nat.{ℕ, suc, _-_, _≤_, _<_}
+use mathlib.Core.Path.{_≡_, refl, _∙_}
 use mathlib.Core.List.{List, [], _∷_}
 use native.Mathlib.Decide.{ℕ-discrete}
 use native.Mathlib.Omega.{arith}
-use borrow.Author.Tests.{lt-ltb, le-ltb, lt-leb}
+use borrow.Author.Tests.{le-ltb, lt-leb}
 use lib.Dec.{lit<}
 use lib.ListN.{length}
 use Rattle.handle.specs.Numbers.{noSlot}
-use Rattle.arena.specs.Words.{Room, headWords, fields, field, put, head, putHead, KEY, LEFT, RIGHT, RANK, BACK, PREV, NEXT, GENERATION, VALUE, STACK, TOP, HEIGHT}
-use Rattle.arena.specs.Laying.{unlinked, blankOf}
-use Rattle.arena.specs.Slots.{handleOf, foundAt, peekFrom, peekSlot, popped, takeSlot, pushed, freeWith, freeSlot}
+use Rattle.arena.specs.Words.{Room, field, put, STACK, HEIGHT}
+use Rattle.arena.specs.Slots.{handleOf, foundAt, peekFrom, peekSlot, popped, takeSlot}
 use Rattle.arena.specs.declared.slots.Taken as T
-use Rattle.arena.specs.declared.slots.Freed as F
-use Rattle.arena.proofs.Laws.{lit≢, length-put, length-putHead, field-at, field-same, field-off, field-slot, head-put, head-same, field-putHead}
-use Rattle.wavl.specs.Lists.{All, In}
-use Rattle.wavl.proofs.Lists.{all-in}
-use Rattle.rules.specs.Queue.{Handle, handle}
+use Rattle.arena.proofs.Laws.{length-put, field-same, head-same, field-putHead}
+use Rattle.wavl.specs.Lists.{All}
+use Rattle.rules.specs.Queue.{Handle}
 use Rattle.rules.specs.Sound.{freeSlots, Under}
-use Rattle.holds.specs.Free.{Blank, FreeAt, FreeWords, FreeStack, Retired}
+use Rattle.holds.specs.Free.{FreeStack}
 use Rattle.holds.specs.Writes.{Only}
 use Rattle.holds.proofs.Writes.{only-trans, only-put, only-putHead}
-use Rattle.holds.proofs.Groups.{free-words-stay, blank-stays}
+use Rattle.holds.proofs.Groups.{free-words-stay}
 
 -- "no slot is free"
 pub peek-none : (s : List ℕ) (cap : ℕ) → FreeStack s cap [] → peekSlot s cap ≡ T.the-variants.Full

@@ -1,21 +1,21 @@
 -- The state of a slot, read off its words: live, free or retired.
 -- A reader may rely on: every slot below the capacity has one of the three, with all that its words then are.
 use Prim.Native.Nat.{ℕ, _≤_, _<_}
-use mathlib.Core.Path.{_≡_, refl, sym, ap, _∙_}
+use mathlib.Core.Path.{_≡_, refl, sym}
 use mathlib.Core.Logic.{_⊎_, inl, inr, ⊎-elim}
-use mathlib.Core.List.{List, [], _∷_, _++_}
+use mathlib.Core.List.{List, [], _∷_}
 use native.Mathlib.Omega.{arith}
 use lib.ListN.{length}
 use Rattle.arena.specs.Words.{field, RANK}
-use Rattle.wavl.specs.Lists.{All, In}
+use Rattle.wavl.specs.Lists.{In}
 use Rattle.wavl.specs.Entry.{Entry, slots}
 use Rattle.wavl.specs.Tree.{Tree, tip, fork, inorder}
 use Rattle.wavl.specs.Ranks.{Ranked}
-use Rattle.wavl.proofs.Lists.{in-left, in-right, in-cases}
+use Rattle.wavl.proofs.Lists.{in-cases}
 use Rattle.wavl.proofs.Rule.{rank-pos}
 use Rattle.rules.specs.Queue.{Handle, Queue, entries}
 use Rattle.rules.specs.Sound.{freeSlots, usedSlots}
-use Rattle.holds.specs.Links.{Node, Links}
+use Rattle.holds.specs.Links.{Links}
 use Rattle.holds.specs.Free.{FreeAt, FreeWords, Retired}
 use Rattle.holds.specs.Holds.{Words}
 use Rattle.holds.proofs.Has.{dec-in}

@@ -1,17 +1,17 @@
 -- The links of a tree, over the side: a node opened and closed, what a store must keep for the links to stay, and the words of a
 -- tree's member. A reader may rely on: only LEFT, RIGHT, RANK and BACK of the tree's own slots matter.
 use Prim.Native.Nat.{ℕ, _+_, _-_, _≤_, _<_}
-use mathlib.Core.Path.{_≡_, refl, sym, _∙_}
-use mathlib.Core.Logic.{_⊎_, inl, inr, ⊎-elim}
+use mathlib.Core.Path.{_≡_, refl, _∙_}
+use mathlib.Core.Logic.{_⊎_, ⊎-elim}
 use mathlib.Core.List.{List}
 use native.Mathlib.Omega.{arith}
-use Rattle.arena.specs.Words.{fields, field, LEFT, RIGHT, RANK, BACK}
+use Rattle.arena.specs.Words.{field, LEFT, RIGHT, RANK, BACK}
 use Rattle.wavl.specs.Lists.{In}
 use Rattle.wavl.specs.Entry.{Entry, slots}
 use Rattle.wavl.specs.Tree.{Side, left, right, Tree, tip, fork, node, inorder}
 use Rattle.holds.specs.Ends.{topSlot, number}
 use Rattle.holds.specs.Links.{Node, Links}
-use Rattle.holds.proofs.Has.{Has, Distinct, Apart, apart, has-cases, has-top, has-near, has-far}
+use Rattle.holds.proofs.Has.{Has, Distinct, apart, has-cases, has-top, has-near, has-far}
 
 pub number-small : (d : Side) → number d ≤ 1
 number-small left = omega arith

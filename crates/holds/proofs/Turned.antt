@@ -1,27 +1,23 @@
 -- The restructures of document 01 in the words, as crates `rebalance` and `lower` write them, without the hook above.
 -- A reader may rely on: each law starts from the links of the parts, whatever tree they hung in before; distinct slots are those of
 -- the tree afterwards, which has the same list of slots. One law over the side.
-use Prim.Native.Nat.{ℕ, _+_, _-_, _≤_, _<_}
-use mathlib.Core.Path.{_≡_, refl, sym, ap, _∙_}
+use Prim.Native.Nat.{ℕ, _-_, _≤_, _<_}
+use mathlib.Core.Path.{_≡_, refl, sym}
 use mathlib.Core.List.{List}
 use native.Mathlib.Omega.{arith}
-use lib.ListN.{length}
-use lib.Dec.{lit<}
 use Rattle.handle.specs.Numbers.{noSlot}
-use Rattle.arena.specs.Words.{Room, fields, field, put, LEFT, RIGHT, BACK}
-use Rattle.arena.proofs.Laws.{length-put}
+use Rattle.arena.specs.Words.{Room, LEFT, BACK}
 use Rattle.tree.specs.Links.{withBack, withNode}
 use Rattle.wavl.specs.Entry.{Entry}
-use Rattle.wavl.specs.Tree.{Side, left, right, Tree, tip, fork, node}
+use Rattle.wavl.specs.Tree.{Side, left, Tree, tip, fork, node}
 use Rattle.holds.specs.Ends.{topSlot, number}
-use Rattle.holds.specs.Links.{Node, Links}
-use Rattle.holds.proofs.Has.{Has, Distinct, Apart, apart, has-top, has-near, has-far, not-top}
-use Rattle.holds.proofs.Trees.{number-small, opened, closed, slot-low, Touch, carry, carry-node}
+use Rattle.holds.specs.Links.{Links}
+use Rattle.holds.proofs.Has.{Has, Distinct, Apart, apart, has-top, has-near, has-far}
+use Rattle.holds.proofs.Trees.{number-small, closed, slot-low, Touch, carry, carry-node}
 use Rattle.holds.specs.Writes.{Only}
 use Rattle.holds.proofs.Ways.{top-node}
-use Rattle.holds.proofs.Writes.{only-trans, only-put, only-back, only-node}
-use Rattle.holds.proofs.WayWrites.{touch-put}
-use Rattle.holds.proofs.NodeWrites.{node-put-back, node-put-far, node-new, touch-node, touch-back, length-node, length-back, new-back}
+use Rattle.holds.proofs.Writes.{only-trans, only-back, only-node}
+use Rattle.holds.proofs.NodeWrites.{node-new, touch-node, touch-back, length-node, length-back, new-back}
 
 -- the top of a tree is in no tree apart from it
 pub top-off : (s : List ℕ) (cap b : ℕ) (c t : Tree) → cap ≤ noSlot → Links s cap b t → ((j : ℕ) → Has j c → ¬ (Has j t)) → ¬ (Has (topSlot c) t)

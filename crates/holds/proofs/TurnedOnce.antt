@@ -1,16 +1,16 @@
 -- The single rotations of document 01 in the words: of a removal, which writes both nodes whole, and of an insertion, which leaves
 -- the rising node's rank and near child. A reader may rely on: as in Turned, the parts may have hung in any tree before.
-use Prim.Native.Nat.{ℕ, _+_, _-_, _≤_, _<_}
-use mathlib.Core.Path.{_≡_, refl, sym, ap, _∙_}
+use Prim.Native.Nat.{ℕ, _-_, _≤_, _<_}
+use mathlib.Core.Path.{_≡_, refl, sym}
 use mathlib.Core.List.{List}
 use native.Mathlib.Omega.{arith}
 use lib.Dec.{lit<}
 use Rattle.handle.specs.Numbers.{noSlot}
-use Rattle.arena.specs.Words.{Room, fields, field, put, LEFT, RIGHT, BACK}
+use Rattle.arena.specs.Words.{Room, put, LEFT, RIGHT, BACK}
 use Rattle.tree.specs.Links.{withBack, withNode}
 use Rattle.chain.proofs.Keeps.{room-put}
 use Rattle.wavl.specs.Entry.{Entry}
-use Rattle.wavl.specs.Tree.{Side, left, right, Tree, tip, fork, node}
+use Rattle.wavl.specs.Tree.{Side, Tree, node}
 use Rattle.holds.specs.Ends.{topSlot, number}
 use Rattle.holds.specs.Links.{Node, Links}
 use Rattle.holds.specs.Writes.{Only}

@@ -1,12 +1,12 @@
 -- A value replaced: the word VALUE of a live slot is written, and the store holds the queue with the new value.
 -- A reader may rely on: new-value, for the node of any entry.
-use Prim.Native.Nat.{ℕ, _≤_, _<_}
+use Prim.Native.Nat.{ℕ, _<_}
 use mathlib.Core.Path.{_≡_, refl, sym, ap, _∙_}
-use mathlib.Core.Logic.{_⊎_, inl, inr}
+use mathlib.Core.Logic.{inl}
 use mathlib.Core.List.{List, [], _∷_, _++_}
 use native.Mathlib.Omega.{arith}
 use lib.Dec.{lit<}
-use Rattle.arena.specs.Words.{field, put, KEY, GENERATION, VALUE, STACK}
+use Rattle.arena.specs.Words.{put, KEY, GENERATION, VALUE}
 use Rattle.arena.proofs.Laws.{field-same}
 use Rattle.wavl.specs.Lists.{All, In, Differ, Once}
 use Rattle.wavl.specs.Entry.{Entry, revalued, slots}
@@ -23,10 +23,9 @@ use Rattle.holds.specs.Entries.{EntryWords, AllEntries}
 use Rattle.holds.specs.Holds.{Words}
 use Rattle.holds.specs.Writes.{Only}
 use Rattle.holds.proofs.Parts.{Separate, used-few, live-low, free-low, free-not-live, room-of}
-use Rattle.holds.proofs.Trees.{LinkField}
 use Rattle.holds.proofs.Ways.{unplugged, plugged}
 use Rattle.holds.proofs.Writes.{only-put}
-use Rattle.holds.proofs.Groups.{tree-stays, chain-stays, entries-stay, entry-stays, stack-stays, all-retired-stay, unused-stays}
+use Rattle.holds.proofs.Groups.{tree-stays, chain-stays, entries-stay, stack-stays, all-retired-stay, unused-stays}
 use Rattle.holds.proofs.Reshaped.{header-stays, withTree}
 
 -- the chain's words do not see values

@@ -1,24 +1,23 @@
 -- What writes leave of a way, and the write of a hook: a subtree replaced at any depth.
 -- A reader may rely on: grown, regrown and raised, with which a change of a tree in the words is a change of one subtree.
 use Prim.Native.Nat.{ℕ, _+_, _-_, _≤_, _<_}
-use mathlib.Core.Path.{_≡_, refl, sym, ap, _∙_}
-use mathlib.Core.Logic.{_⊎_, inl, inr}
+use mathlib.Core.Path.{_≡_, refl, sym, _∙_}
+use mathlib.Core.Logic.{inl, inr}
 use mathlib.Core.List.{List, [], _∷_}
 use native.Mathlib.Omega.{arith}
 use borrow.Author.Tests.{lt-ltb, le-ltb, eq-eqb, ne-eqb}
 use Rattle.handle.specs.Numbers.{noSlot}
-use Rattle.arena.specs.Words.{Room, fields, field, put, head, putHead, LEFT, RIGHT, RANK, BACK, ROOT}
+use Rattle.arena.specs.Words.{Room, fields, put, head, putHead, LEFT, RIGHT, RANK, BACK, ROOT}
 use Rattle.arena.proofs.Laws.{field-same, field-off, field-slot, head-put, head-same, field-putHead}
 use Rattle.tree.specs.Links.{sideOf, withChild, relinked}
-use Rattle.wavl.specs.Entry.{Entry}
-use Rattle.wavl.specs.Tree.{Side, left, right, Tree, tip, fork, node}
+use Rattle.wavl.specs.Tree.{left, right, Tree, node}
 use Rattle.wavl.specs.Way.{step, Way, plug}
 use Rattle.holds.specs.Ends.{topSlot, number}
 use Rattle.holds.specs.Links.{Links, TreeWords}
-use Rattle.holds.specs.Ways.{parent, sideIn, Hook, Half, LinksWay}
-use Rattle.holds.proofs.Has.{Has, Distinct, apart, has-top, not-top}
-use Rattle.holds.proofs.Trees.{number-small, LinkField, SameLinks, links-keep}
-use Rattle.holds.proofs.Ways.{Parted, unplugged, plugged, distinct-in, HasWay, way-apart, above-apart}
+use Rattle.holds.specs.Ways.{parent, sideIn, Hook, LinksWay}
+use Rattle.holds.proofs.Has.{Has, Distinct, apart, not-top}
+use Rattle.holds.proofs.Trees.{number-small, SameLinks, links-keep}
+use Rattle.holds.proofs.Ways.{Parted, unplugged, plugged, distinct-in, HasWay, above-apart}
 
 module _ (s t : List ℕ) (cap : ℕ) where
   -- no slot of the way is written, nor the header's ROOT

@@ -1,20 +1,18 @@
 -- The words of a whole tree, taken apart at a place and put together again: the tree that hangs there, its hook, the way up.
 -- A reader may rely on: plugged and unplugged are each other's way back, so that a change at any depth is a change of a subtree's
 -- links and of its hook, with the way kept.
-use Prim.Native.Nat.{ℕ, _+_, _-_, _≤_, _<_}
-use mathlib.Core.Path.{_≡_, refl, sym, ap, _∙_}
-use mathlib.Core.Logic.{_⊎_, inl, inr, ⊎-elim}
-use mathlib.Core.List.{List, [], _∷_, _++_}
-use native.Mathlib.Omega.{arith}
-use Rattle.arena.specs.Words.{field, head, LEFT, RIGHT, RANK, BACK, ROOT}
-use Rattle.wavl.specs.Entry.{Entry, slots}
-use Rattle.wavl.specs.Tree.{Side, left, right, Tree, tip, fork, node, inorder}
+use Prim.Native.Nat.{ℕ, _-_}
+use mathlib.Core.Path.{_≡_, refl}
+use mathlib.Core.Logic.{_⊎_, inl, inr}
+use mathlib.Core.List.{List, [], _∷_}
+use Rattle.wavl.specs.Entry.{Entry}
+use Rattle.wavl.specs.Tree.{Side, left, right, Tree, node}
 use Rattle.wavl.specs.Way.{step, Way, plug}
-use Rattle.holds.specs.Ends.{topSlot, number}
-use Rattle.holds.specs.Links.{Node, Links, TreeWords}
-use Rattle.holds.specs.Ways.{parent, Hook, Half, LinksWay}
-use Rattle.holds.proofs.Has.{Has, Distinct, Apart, apart, has-cases, has-top, has-near, has-far}
-use Rattle.holds.proofs.Trees.{number-small, LinkField, SameLinks, opened, closed, links-keep, Away}
+use Rattle.holds.specs.Ends.{topSlot}
+use Rattle.holds.specs.Links.{Links, TreeWords}
+use Rattle.holds.specs.Ways.{parent, Hook, LinksWay}
+use Rattle.holds.proofs.Has.{Has, Distinct, apart, has-cases, has-top, has-near, has-far}
+use Rattle.holds.proofs.Trees.{opened, closed}
 
 -- the parts of a whole tree at a place
 pub record Parted (s : List ℕ) (cap : ℕ) (t : Tree) (p : Way) : Type 0 where

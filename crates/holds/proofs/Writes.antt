@@ -1,13 +1,12 @@
 -- Writes one after another, each seen as "no other place": the steps of crates `arena`, `tree` and `chain`.
 -- A reader may rely on: W and H are the caller's, and each law asks only that they allow what the step writes.
 use Prim.Native.Nat.{ℕ, _+_, _-_, _<_, _≤_}
-use mathlib.Core.Path.{_≡_, refl, sym, _∙_}
+use mathlib.Core.Path.{refl, _∙_}
 use mathlib.Core.List.{List}
 use native.Mathlib.Omega.{arith}
 use native.Mathlib.Decide.{decLt}
 use borrow.Author.Tests.{lt-ltb, le-ltb}
-use lib.ListN.{length}
-use Rattle.arena.specs.Words.{Room, headWords, fields, field, put, head, putHead, LEFT, RIGHT, RANK, BACK, PREV, NEXT, FIRST, LAST, ROOT}
+use Rattle.arena.specs.Words.{Room, headWords, fields, put, putHead, LEFT, RIGHT, RANK, BACK, PREV, NEXT, FIRST, LAST, ROOT}
 use Rattle.arena.proofs.Laws.{length-put, length-putHead, head-put, rest-put, head-other, field-putHead, rest-putHead}
 use Rattle.tree.specs.Links.{withBack, withChild, withNode}
 use Rattle.chain.specs.Kept.{ChainOnly}
