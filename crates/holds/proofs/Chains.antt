@@ -1,5 +1,5 @@
 -- The chain of the words around an entry, and what a step and an end mean on a store that holds a queue.
--- A reader may rely on: step-means and end-means, over the side; chain-at, for an entry anywhere in the chain.
+-- A reader may rely on: step-means, over the side, first-means and last-means; chain-at, for an entry anywhere in the chain.
 use Prim.Native.Nat.{ℕ, _+_, _<_}
 use mathlib.Core.Path.{_≡_, refl, sym, ap, _∙_}
 use mathlib.Core.Logic.{inl, inr}
