@@ -7,4 +7,8 @@ pub mod Hung
 pub mod Beside
 pub mod Added
 pub mod Swapped
-pub mod Normal
+pub mod Plans
+pub mod Preparing
+pub mod Neighbours
+pub mod Manual
+pub mod Theorems

@@ -1,0 +1,56 @@
+-- Insertion and look-ahead on a store that holds a queue, the three kinds of each: the theorems that a reader is meant to cite.
+-- A reader may rely on these for every store that holds a queue, every key, value, handle and side; refusals 1 and 2 are among the
+-- answers, and 5 never is: crate `rules` does not give it.
+use Prim.Native.Nat.{ℕ}
+use mathlib.Core.Path.{_≡_}
+use mathlib.Core.List.{List}
+use lib.IntN.{ℤ}
+use Rattle.handle.specs.declared.Handle.{Handle}
+use Rattle.handle.specs.declared.Side.{Side}
+use Rattle.arena.specs.Keys.{stored}
+use Rattle.insert.specs.Kinds.{preparedNormal, preparedEmpty, preparedManual}
+use Rattle.insert.specs.Place.{insertNormal, insertEmpty, insertManual}
+use Rattle.insert.specs.Ahead.{aheadNormal, aheadEmpty, aheadManual}
+use Rattle.rules.specs.Queue.{Queue}
+use Rattle.rules.specs.Insert as Rules
+use Rattle.rules.proofs.Insertions.{normal-sound, empty-sound, manual-sound}
+use Rattle.holds.specs.Handles.{plain}
+use Rattle.holds.specs.Holds.{Holds}
+use Rattle.holds.proofs.Parts.{sound-of}
+use Rattle.placed.specs.Meaning.{aheadMeans, sideMeans, Inserts}
+use Rattle.placed.proofs.Plans.{carries-out, foretells}
+use Rattle.placed.proofs.Preparing.{normal-prepares, empty-prepares}
+use Rattle.placed.proofs.Manual.{manual-prepares}
+
+module _ {s : List ℕ} {q : Queue} (k : Holds s q) (key : ℤ) where
+  abbrev cap : ℕ
+  cap = q .capacity
+
+  -- "Normal: search from the root .. Equal: the value is replaced .. Otherwise a new entry is placed there."
+  pub normal-means : (value : ℕ) → Inserts (insertNormal s cap key value) (Rules.insertNormal (stored key) value q)
+  unfolding insertNormal
+  normal-means value = carries-out k key value (preparedNormal s cap (stored key)) _ (normal-prepares k (stored key)) (normal-sound (stored key) value q (sound-of k))
+
+  pub normal-ahead : aheadMeans (aheadNormal s cap key) ≡ Rules.aheadNormal (stored key) q
+  unfolding aheadNormal Rules.aheadNormal
+  normal-ahead = foretells k (stored key) (preparedNormal s cap (stored key)) _ (normal-prepares k (stored key))
+
+  -- "Empty: only into an empty queue."
+  pub empty-means : (value : ℕ) → Inserts (insertEmpty s cap key value) (Rules.insertEmpty (stored key) value q)
+  unfolding insertEmpty
+  empty-means value = carries-out k key value (preparedEmpty s) _ (empty-prepares k (stored key)) (empty-sound (stored key) value q (sound-of k))
+
+  pub empty-ahead : aheadMeans (aheadEmpty s cap) ≡ Rules.aheadEmpty (stored key) q
+  unfolding aheadEmpty Rules.aheadEmpty
+  empty-ahead = foretells k (stored key) (preparedEmpty s) _ (empty-prepares k (stored key))
+
+  -- "Manual: a live handle .. and a side."
+  module _ (h : Handle) (side : Side) where
+    pub manual-means : (value : ℕ) → Inserts (insertManual s cap h side key value) (Rules.insertManual (plain h) (sideMeans side) (stored key) value q)
+    unfolding insertManual
+    manual-means value =
+        carries-out k key value (preparedManual s cap h side (stored key)) _ (manual-prepares k (stored key) h side) (manual-sound (stored key) value q (sound-of k) (plain h) (sideMeans side))
+
+    pub manual-ahead : aheadMeans (aheadManual s cap h side key) ≡ Rules.aheadManual (plain h) (sideMeans side) (stored key) q
+    unfolding aheadManual Rules.aheadManual
+    manual-ahead = foretells k (stored key) (preparedManual s cap h side (stored key)) _ (manual-prepares k (stored key) h side)
