@@ -16,6 +16,7 @@ use Rattle.wavl.proofs.Rising.{node-around}
 use Rattle.wavl.proofs.Taken.{fork-rank, front, front-last}
 use Rattle.holds.specs.Ends.{firstSlot}
 use Rattle.holds.specs.Chain.{Between, Chain, ChainWords}
+use Rattle.holds.proofs.Chains.{endOr, chain-at}
 use Rattle.taken.proofs.Settled.{closing}
 use Rattle.taken.proofs.Filled.{plug-append}
 
@@ -53,25 +54,17 @@ closes (fork tip f q (fork a g s b)) e r p k = let h = fork-rank a g s b (k .0 .
 closes (fork (fork a g s b) f q c) e r p k = let h = fork-rank a g s b (k .0 .0) in absurd (omega arith)
 
 -- the chain's neighbours of an entry
-abbrev lastOr : ℕ → List Entry → ℕ
-lastOr p [] = p
-lastOr p (e ∷ l) = lastOr (e .slot) l
-
-pub chain-at : (s : List ℕ) (cap p : ℕ) (l : List Entry) (x : Entry) (m : List Entry) → Chain s cap p (l ++ (x ∷ m)) → Between s cap (lastOr p l) (x .slot) (firstSlot m)
-chain-at s cap p [] x m c = c .0
-chain-at s cap p (e ∷ l) x m c = chain-at s cap (e .slot) l x m (c .1)
-
-last-or : (p : ℕ) (l : List Entry) (e : Entry) → lastOr p (l ++ (e ∷ [])) ≡ e .slot
-last-or p [] e = refl
-last-or p (f ∷ l) e = last-or (f .slot) l e
+end-of : (p : ℕ) (l : List Entry) (e : Entry) → endOr p (l ++ (e ∷ [])) ≡ e .slot
+end-of p [] e = refl
+end-of p (f ∷ l) e = end-of (f .slot) l e
 
 module _ (s : List ℕ) (cap : ℕ) (a : Tree) (x : Entry) (r : ℕ) (b : Tree) (p : Way) (k : ChainWords s cap (inorder (plug (fork a x r b) p))) where
-  pub between : Between s cap (lastOr noSlot (before p ++ inorder a)) (x .slot) (firstSlot (inorder b ++ after p))
-  between = chain-at s cap noSlot (before p ++ inorder a) x (inorder b ++ after p) (rw (node-around a x r b p) at (k .chain))
+  pub between : Between s cap (endOr noSlot (before p ++ inorder a)) (x .slot) (firstSlot (inorder b ++ after p))
+  between = chain-at s cap (before p ++ inorder a) x (inorder b ++ after p) noSlot (rw (node-around a x r b p) at (k .chain))
 
 pub prev-is-last : (s : List ℕ) (cap : ℕ) (a : Tree) (f : Entry) (q : ℕ) (c : Tree) (x : Entry) (r : ℕ) (b : Tree) (p : Way)
     → ChainWords s cap (inorder (plug (fork (fork a f q c) x r b) p)) → field s cap (x .slot) PREV ≡ endmost right (fork a f q c) .slot
 prev-is-last s cap a f q c x r b p k =
     let z = fork a f q c in
     let o : before p ++ inorder z ≡ (before p ++ front z) ++ (endmost right z ∷ []) = rw (front-last a f q c) (simp append-assoc) in
-    between s cap z x r b p k .prev-is ∙ ap (lastOr noSlot) o ∙ last-or noSlot (before p ++ front z) (endmost right z)
+    between s cap z x r b p k .prev-is ∙ ap (endOr noSlot) o ∙ end-of noSlot (before p ++ front z) (endmost right z)

@@ -13,3 +13,4 @@ pub mod Standing
 pub mod Filled
 pub mod Ends
 pub mod TakesOut
+pub mod Unchained

@@ -1,0 +1,165 @@
+-- An entry that left the tree leaves the chain: every group of the store's words after the two, with its slot's own words still there.
+-- A reader may rely on: only links of live slots, and ROOT, FIRST and LAST, are written.
+use Prim.Native.Nat.{ℕ, _+_, _≤_, _<_}
+use mathlib.Core.Path.{_≡_, refl, sym, ap, _∙_}
+use mathlib.Core.Logic.{_⊎_, inl, inr}
+use mathlib.Core.List.{List, [], _∷_, _++_}
+use native.Mathlib.Omega.{arith}
+use lib.Dec.{lit<}
+use lib.ListN.{length}
+use Rattle.handle.specs.Numbers.{noSlot}
+use Rattle.arena.specs.Words.{Room, LEFT, BACK, PREV, NEXT, TOP, FIRST, LAST, ROOT, STACK}
+use Rattle.wavl.specs.Lists.{All, In, Differ, Once}
+use Rattle.wavl.specs.Entry.{Entry, slots}
+use Rattle.wavl.specs.Tree.{Tree}
+use Rattle.wavl.proofs.Lists.{all-in, in-left, in-right, in-middle, pairwise-left}
+use Rattle.chain.specs.Links.{joined, unlinkSlot}
+use Rattle.chain.specs.declared.Neighbours.{Neighbours}
+use Rattle.chain.proofs.Laws.{unlink-is, joined-only, joined-field}
+use Rattle.rules.specs.Queue.{Queue, entries}
+use Rattle.rules.specs.Sound.{freeSlots, usedSlots, Under}
+use Rattle.rules.proofs.Lists.{slots-put}
+use Rattle.holds.specs.Ends.{firstSlot, lastSlot}
+use Rattle.holds.specs.Links.{TreeWords}
+use Rattle.holds.specs.Chain.{Between, ChainWords}
+use Rattle.holds.specs.Entries.{AllEntries}
+use Rattle.holds.specs.Free.{FreeStack, AllRetired}
+use Rattle.holds.specs.Holds.{HeaderWords, Unused, Words}
+use Rattle.holds.specs.Writes.{Only}
+use Rattle.holds.proofs.Parts.{Separate, used-few, live-low, free-low, free-not-live, few-slots, room-of}
+use Rattle.holds.proofs.Writes.{only-trans, only-weaken, only-room}
+use Rattle.holds.proofs.Groups.{unused-stays, tree-stays, chain-stays, entries-stay, stack-stays, all-retired-stay}
+use Rattle.holds.proofs.Reshaped.{header-stays}
+use Rattle.holds.proofs.Chains.{endOr, end-last, chain-at}
+use Rattle.holds.proofs.Segments.{last-in-slots}
+use Rattle.holds.proofs.Linked.{joined-unlinks, chain-out}
+use Rattle.taken.specs.Kept.{TreePlace, AtRoot, TreeOnly}
+
+-- the two words that close the chain over what stood between a and b
+abbrev pub ClosedAt : ℕ → ℕ → ℕ → ℕ → Type 0
+ClosedAt a b j g = ((j ≡ a) × (g ≡ NEXT)) ⊎ ((j ≡ b) × (g ≡ PREV))
+
+abbrev pub IsEnd : ℕ → Type 0
+IsEnd h = (h ≡ FIRST) ⊎ (h ≡ LAST)
+
+pub closed-only : (s : List ℕ) (cap a b : ℕ) → Only s (joined s cap a b) cap (ClosedAt a b) IsEnd
+closed-only s cap a b =
+    let o = joined-only s cap a b in
+    record {
+      long = o .long;
+      slots = λ j g hj hg n. joined-field s cap a b j g hj hg (λ e. n (inl e)) (λ e. n (inr e));
+      heads = λ h hh n. o .heads h hh (λ e. n (inl e)) (λ e. n (inr e));
+      rest = o .rest;
+    }
+
+-- a link of a live slot, of the tree or of the chain; the header's words that name ends
+abbrev pub LinkAt : List ℕ → ℕ → ℕ → Type 0
+LinkAt l j g = In j l × (LEFT ≤ g) × (g ≤ NEXT)
+
+abbrev pub NamesEnd : ℕ → Type 0
+NamesEnd h = (FIRST ≤ h) × (h ≤ ROOT)
+
+-- x stands between l and m; t is what is left of the tree
+pub record Out (s u : List ℕ) (q : Queue) (l : List Entry) (x : Entry) (m : List Entry) (t : Tree) : Type 0 where
+  pub only : Only s u (q .capacity) (LinkAt (slots (entries q))) NamesEnd
+  pub header : HeaderWords u q
+  pub tree : TreeWords u (q .capacity) t
+  pub chain : ChainWords u (q .capacity) (l ++ m)
+  pub live : AllEntries u (q .capacity) (l ++ (x ∷ m))
+  pub free : FreeStack u (q .capacity) (q .free)
+  pub retired : AllRetired u (q .capacity) (q .top) (usedSlots q)
+  pub unused : Unused u
+
+module _ (s s1 : List ℕ) (q : Queue) (d : Separate q) (w : Words s q) (l : List Entry) (x : Entry) (m : List Entry) (old : entries q ≡ l ++ (x ∷ m)) (t : Tree)
+    (tree : TreeWords s1 (q .capacity) t) (o1 : TreeOnly s s1 (q .capacity) (slots (entries q))) where
+  abbrev cap : ℕ
+  cap = q .capacity
+
+  abbrev L : List ℕ
+  L = slots (entries q)
+
+  abbrev a : ℕ
+  a = lastSlot l
+
+  abbrev b : ℕ
+  b = firstSlot m
+
+  abbrev u : List ℕ
+  u = joined s1 cap a b
+
+  few : cap ≤ noSlot
+  few = few-slots w
+
+  room1 : Room s1 cap
+  room1 = only-room cap (TreePlace L) AtRoot s s1 o1 (room-of w)
+
+  low : All (Under cap) (slots (l ++ (x ∷ m)))
+  low = rw old at (live-low d)
+
+  once : Once (slots (l ++ (x ∷ m)))
+  once = rw old at (pairwise-left Differ L (freeSlots (q .free)) (d .apart))
+
+  chain1 : ChainWords s1 cap (l ++ (x ∷ m))
+  chain1 =
+      rw old at (chain-stays s s1 cap (TreePlace L) AtRoot o1 (entries q) (live-low d) (λ z. omega arith) (λ z. omega arith)
+      (λ j h. ((λ z. let k = z .2 in omega arith), (λ z. let k = z .2 in omega arith))) (w .chain))
+
+  pub unlinks : unlinkSlot s1 cap (x .slot) .0 ≡ u
+  unlinks =
+      let k = chain-at s1 cap l x m noSlot (chain1 .chain) in
+      ap (λ (y : List ℕ × Neighbours). y .0) (unlink-is s1 cap (x .slot) a b (k .prev-is ∙ end-last l) (k .next-is))
+
+  -- the closed ends are slots of the chain, or none
+  last-live : (k : List Entry) (j : ℕ) → j < cap → j ≡ lastSlot k → In j (slots k)
+  last-live [] j h e = absurd (omega arith)
+  last-live (e ∷ k) j h z = rw z (last-in-slots e k)
+
+  first-live : (k : List Entry) (j : ℕ) → j < cap → j ≡ firstSlot k → In j (slots k)
+  unfolding slots
+  first-live [] j h e = absurd (omega arith)
+  first-live (e ∷ k) j h z = inl z
+
+  o2 : Only s1 u cap (ClosedAt a b) IsEnd
+  o2 = closed-only s1 cap a b
+
+  closed-live : (j g : ℕ) → j < cap → ClosedAt a b j g → LinkAt L j g
+  closed-live j g h (inl z) =
+      let k : g ≡ NEXT = z .1 in
+      (rw (old, slots-put l x m) (in-left j (slots l) (x .slot ∷ slots m) (last-live l j h (z .0))), omega arith, omega arith)
+  closed-live j g h (inr z) =
+      let k : g ≡ PREV = z .1 in
+      (rw (old, slots-put l x m) (in-right j (slots l) (x .slot ∷ slots m) (inr (first-live m j h (z .0)))), omega arith, omega arith)
+
+  end-named : (h : ℕ) → IsEnd h → NamesEnd h
+  end-named h (inl z) = (omega arith, omega arith)
+  end-named h (inr z) = (omega arith, omega arith)
+
+  o : Only s u cap (LinkAt L) NamesEnd
+  o = record {
+    long = o2 .long ∙ o1 .long;
+    slots = λ j g hj hg n. o2 .slots j g hj hg (λ z. n (closed-live j g hj z)) ∙ o1 .slots j g hj hg (λ z. let k = z .2 in n (z .0, z .1, omega arith));
+    heads = λ h hh n. o2 .heads h hh (λ z. n (end-named h z)) ∙ o1 .heads h hh (λ z. n (omega arith, omega arith));
+    rest = λ k hk. o2 .rest k hk ∙ o1 .rest k hk;
+  }
+
+  not-closed : (j g : ℕ) → g ≤ BACK → ¬ (ClosedAt a b j g)
+  not-closed j g h (inl z) = let k : g ≡ NEXT = z .1 in omega arith
+  not-closed j g h (inr z) = let k : g ≡ PREV = z .1 in omega arith
+
+  not-end : ¬ (IsEnd ROOT)
+  not-end (inl z) = omega arith
+  not-end (inr z) = omega arith
+
+  pub unchained : Out s u q l x m t
+  unchained = record {
+    only = o;
+    header = header-stays s u q (LinkAt L) NamesEnd o (λ h k z. let n = z .0 in omega arith) (w .header);
+    tree = tree-stays s1 u cap (ClosedAt a b) IsEnd o2 t not-end (λ j g h f. not-closed j g (f .to)) tree;
+    chain = chain-out s1 u cap l x m few once low (joined-unlinks s1 cap a b room1) chain1;
+    live = rw old at (entries-stay s u cap (LinkAt L) NamesEnd o (entries q) (live-low d)
+      (λ j h. ((λ z. let k = z .1 in omega arith), (λ z. let k = z .2 in omega arith), (λ z. let k = z .2 in omega arith))) (w .live));
+    free = stack-stays s u cap (LinkAt L) NamesEnd o (q .free) (let k = used-few d in omega arith) (free-low d) (λ z. let k = z .0 in omega arith)
+      (λ p z. let k = z .2 in omega arith) (λ j h g f z. free-not-live d j h (z .0)) (w .free);
+    retired = all-retired-stay s u cap (LinkAt L) NamesEnd o (q .top) (usedSlots q) (λ j n g f z. n (in-left j L (freeSlots (q .free)) (z .0))) (w .retired);
+    unused = unused-stays s u cap (LinkAt L) NamesEnd o (λ h k z. let n = z .1 in omega arith) (w .unused);
+  }
