@@ -15,7 +15,7 @@ use Rattle.wavl.proofs.Order.{IsFork}
 use Rattle.wavl.proofs.Rising.{node-around}
 use Rattle.wavl.proofs.Taken.{fork-rank, front, front-last}
 use Rattle.holds.specs.Ends.{firstSlot}
-use Rattle.holds.specs.Chain.{Between, Chain, ChainWords}
+use Rattle.holds.specs.Chain.{Between, ChainWords}
 use Rattle.holds.proofs.Chains.{endOr, chain-at}
 use Rattle.taken.proofs.Settled.{closing}
 use Rattle.taken.proofs.Filled.{plug-append}

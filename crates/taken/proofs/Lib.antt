@@ -14,3 +14,5 @@ pub mod Filled
 pub mod Ends
 pub mod TakesOut
 pub mod Unchained
+pub mod Released
+pub mod Means

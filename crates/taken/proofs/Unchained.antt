@@ -1,18 +1,16 @@
 -- An entry that left the tree leaves the chain: every group of the store's words after the two, with its slot's own words still there.
 -- A reader may rely on: only links of live slots, and ROOT, FIRST and LAST, are written.
-use Prim.Native.Nat.{ℕ, _+_, _≤_, _<_}
-use mathlib.Core.Path.{_≡_, refl, sym, ap, _∙_}
+use Prim.Native.Nat.{ℕ, _≤_, _<_}
+use mathlib.Core.Path.{_≡_, ap, _∙_}
 use mathlib.Core.Logic.{_⊎_, inl, inr}
 use mathlib.Core.List.{List, [], _∷_, _++_}
 use native.Mathlib.Omega.{arith}
-use lib.Dec.{lit<}
-use lib.ListN.{length}
 use Rattle.handle.specs.Numbers.{noSlot}
-use Rattle.arena.specs.Words.{Room, LEFT, BACK, PREV, NEXT, TOP, FIRST, LAST, ROOT, STACK}
+use Rattle.arena.specs.Words.{Room, LEFT, BACK, PREV, NEXT, FIRST, LAST, ROOT}
 use Rattle.wavl.specs.Lists.{All, In, Differ, Once}
 use Rattle.wavl.specs.Entry.{Entry, slots}
 use Rattle.wavl.specs.Tree.{Tree}
-use Rattle.wavl.proofs.Lists.{all-in, in-left, in-right, in-middle, pairwise-left}
+use Rattle.wavl.proofs.Lists.{in-left, in-right, pairwise-left}
 use Rattle.chain.specs.Links.{joined, unlinkSlot}
 use Rattle.chain.specs.declared.Neighbours.{Neighbours}
 use Rattle.chain.proofs.Laws.{unlink-is, joined-only, joined-field}
@@ -21,16 +19,16 @@ use Rattle.rules.specs.Sound.{freeSlots, usedSlots, Under}
 use Rattle.rules.proofs.Lists.{slots-put}
 use Rattle.holds.specs.Ends.{firstSlot, lastSlot}
 use Rattle.holds.specs.Links.{TreeWords}
-use Rattle.holds.specs.Chain.{Between, ChainWords}
+use Rattle.holds.specs.Chain.{ChainWords}
 use Rattle.holds.specs.Entries.{AllEntries}
 use Rattle.holds.specs.Free.{FreeStack, AllRetired}
 use Rattle.holds.specs.Holds.{HeaderWords, Unused, Words}
 use Rattle.holds.specs.Writes.{Only}
 use Rattle.holds.proofs.Parts.{Separate, used-few, live-low, free-low, free-not-live, few-slots, room-of}
-use Rattle.holds.proofs.Writes.{only-trans, only-weaken, only-room}
+use Rattle.holds.proofs.Writes.{only-room}
 use Rattle.holds.proofs.Groups.{unused-stays, tree-stays, chain-stays, entries-stay, stack-stays, all-retired-stay}
 use Rattle.holds.proofs.Reshaped.{header-stays}
-use Rattle.holds.proofs.Chains.{endOr, end-last, chain-at}
+use Rattle.holds.proofs.Chains.{end-last, chain-at}
 use Rattle.holds.proofs.Segments.{last-in-slots}
 use Rattle.holds.proofs.Linked.{joined-unlinks, chain-out}
 use Rattle.taken.specs.Kept.{TreePlace, AtRoot, TreeOnly}
@@ -157,9 +155,9 @@ module _ (s s1 : List ℕ) (q : Queue) (d : Separate q) (w : Words s q) (l : Lis
     tree = tree-stays s1 u cap (ClosedAt a b) IsEnd o2 t not-end (λ j g h f. not-closed j g (f .to)) tree;
     chain = chain-out s1 u cap l x m few once low (joined-unlinks s1 cap a b room1) chain1;
     live = rw old at (entries-stay s u cap (LinkAt L) NamesEnd o (entries q) (live-low d)
-      (λ j h. ((λ z. let k = z .1 in omega arith), (λ z. let k = z .2 in omega arith), (λ z. let k = z .2 in omega arith))) (w .live));
+        (λ j h. ((λ z. let k = z .1 in omega arith), (λ z. let k = z .2 in omega arith), (λ z. let k = z .2 in omega arith))) (w .live));
     free = stack-stays s u cap (LinkAt L) NamesEnd o (q .free) (let k = used-few d in omega arith) (free-low d) (λ z. let k = z .0 in omega arith)
-      (λ p z. let k = z .2 in omega arith) (λ j h g f z. free-not-live d j h (z .0)) (w .free);
+        (λ p z. let k = z .2 in omega arith) (λ j h g f z. free-not-live d j h (z .0)) (w .free);
     retired = all-retired-stay s u cap (LinkAt L) NamesEnd o (q .top) (usedSlots q) (λ j n g f z. n (in-left j L (freeSlots (q .free)) (z .0))) (w .retired);
     unused = unused-stays s u cap (LinkAt L) NamesEnd o (λ h k z. let n = z .1 in omega arith) (w .unused);
   }
