@@ -1,3 +1,4 @@
 pub mod Answers
+pub mod Looked
 pub mod Keeping
-pub mod Promised
+pub mod Promising

@@ -1,6 +1,6 @@
--- What a public call promises on every store, sound or not. "Each public call states its answer and the complete store afterwards,
--- for every input, refusals too" (document 01).
--- A reader may rely on: a model is a function of the store and the arguments, so no second answer and no second store meets it.
+-- What a public call promises: on every store the model's answer and store, on a sound one document 01's.
+-- "Each public call states its answer and the complete store afterwards, for every input, refusals too" (document 01).
+-- A reader may rely on: no second answer and no second store meets a promise (proofs/Single.antt).
 use Prim.Native.Nat.{ℕ, _≤_}
 use mathlib.Core.Path.{_≡_}
 use mathlib.Core.List.{List}
@@ -8,9 +8,12 @@ use lib.ListN.{length, getD}
 use Rattle.arena.specs.Words.{need}
 use Rattle.arena.specs.Header.{headerOf, Passing}
 use Rattle.arena.specs.declared.header.Header.the-variants.{Fails}
+use Rattle.rules.specs.Queue.{Queue}
+use Rattle.holds.specs.Holds.{Holds}
 
--- A call that may write: s is the store before, t the one after, r the answer, `five` refusal 5 as an answer of its kind.
-pub record Writes {A : Type 0} (five : A) (model : List ℕ × A) (s t : List ℕ) (r : A) : Type 0 where
+-- A call that may write: s is the store before, t the one after, r the answer. `five` is refusal 5 as an answer of its kind, `reads`
+-- gives an answer's numbers and values in document 01's terms, and `rule` is what document 01 says of a queue.
+pub record Writes {A B : Type 0} (five : A) (model : List ℕ × A) (reads : A → B) (rule : Queue → B × Queue) (s t : List ℕ) (r : A) : Type 0 where
   -- on every store: the answer and the complete store
   pub does : (t, r) ≡ model
   -- where the header fails: refusal 5, and nothing changes
@@ -18,8 +21,11 @@ pub record Writes {A : Type 0} (five : A) (model : List ℕ × A) (s t : List �
   -- the length stays, and so do the numbers past what the capacity needs
   pub long : length t ≡ length s
   pub rest : (cap : ℕ) → Passing s cap → (k : ℕ) → need cap ≤ k → getD t k 0 ≡ getD s k 0
+  -- on a store that holds a queue: document 01's answer, and afterwards document 01's queue
+  pub means : (q : Queue) → Holds s q → (reads r ≡ rule q .0) × Holds t (rule q .1)
 
 -- A call that only looks takes the store by shared reference: it has no store afterwards.
-pub record Looks {A : Type 0} (five : A) (model : A) (s : List ℕ) (r : A) : Type 0 where
+pub record Looks {A B : Type 0} (five : A) (model : A) (reads : A → B) (rule : Queue → B) (s : List ℕ) (r : A) : Type 0 where
   pub does : r ≡ model
   pub fails : headerOf s ≡ Fails → r ≡ five
+  pub means : (q : Queue) → Holds s q → reads r ≡ rule q

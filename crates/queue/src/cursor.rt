@@ -3,8 +3,8 @@
 ghost use mathlib.Core.Path.{_≡_};
 ghost use Prim.Native.Nat.{_<_, _≤_};
 ghost use Rattle.arena.specs.Words.{Room};
-ghost use Rattle.queue.specs.Promises.{Looks};
-ghost use Rattle.queue.specs.Moving.{movedTo, startCall, standCall, stepIn, stepCall};
+ghost use Rattle.queue.specs.Promised.{FirstPromise, LastPromise, AtPromise, BackPromise, ForwardPromise};
+ghost use Rattle.queue.specs.Moving.{movedTo, startCall, stepIn, stepCall};
 use arena::entries;
 use arena::header;
 use arena::header::Header;
@@ -80,21 +80,21 @@ fn step(s: &[u64], h: Handle, d: u64) -> Moved
 impl Cursor {
     // Stands at the first entry.
     pub fn first(s: &[u64]) -> Moved
-        ensures { λ r. ⌜ Looks (Moved.Refused Refusal.NotSound) (startCall (now (s .entry)) 0) (now (s .entry)) r ⌝ }
+        ensures { λ r. ⌜ FirstPromise (now (s .entry)) r ⌝ }
     {
         start(s, 0)
     }
 
     // Stands at the last entry.
     pub fn last(s: &[u64]) -> Moved
-        ensures { λ r. ⌜ Looks (Moved.Refused Refusal.NotSound) (startCall (now (s .entry)) 1) (now (s .entry)) r ⌝ }
+        ensures { λ r. ⌜ LastPromise (now (s .entry)) r ⌝ }
     {
         start(s, 1)
     }
 
     // Stands at the entry that h names.
     pub fn at(s: &[u64], h: Handle) -> Moved
-        ensures { λ r. ⌜ Looks (Moved.Refused Refusal.NotSound) (standCall (now (s .entry)) h) (now (s .entry)) r ⌝ }
+        ensures { λ r. ⌜ AtPromise (now (s .entry)) h r ⌝ }
     {
         let t = header::test(s);
         match t {
@@ -112,7 +112,7 @@ impl Cursor {
 
     // The cursor one entry on.
     pub fn forward(self, s: &[u64]) -> Moved
-        ensures { λ r. ⌜ Looks (Moved.Refused Refusal.NotSound) (stepCall (now (s .entry)) (self .handle) 1) (now (s .entry)) r ⌝ }
+        ensures { λ r. ⌜ ForwardPromise (now (s .entry)) (self .handle) r ⌝ }
     {
         let h = self.handle;
         step(s, h, 1)
@@ -120,7 +120,7 @@ impl Cursor {
 
     // The cursor one entry back.
     pub fn back(self, s: &[u64]) -> Moved
-        ensures { λ r. ⌜ Looks (Moved.Refused Refusal.NotSound) (stepCall (now (s .entry)) (self .handle) 0) (now (s .entry)) r ⌝ }
+        ensures { λ r. ⌜ BackPromise (now (s .entry)) (self .handle) r ⌝ }
     {
         let h = self.handle;
         step(s, h, 0)

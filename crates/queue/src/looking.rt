@@ -2,8 +2,8 @@
 // From the Rust: find_similar_key of ord/find.rs, and reading by pointer.
 ghost use mathlib.Core.Path.{_≡_};
 ghost use Rattle.arena.specs.Words.{Room};
-ghost use Rattle.queue.specs.Promises.{Looks};
-ghost use Rattle.queue.specs.Looking.{searched, searchCall, handleAt, readCall};
+ghost use Rattle.queue.specs.Promised.{SearchPromise, ReadPromise};
+ghost use Rattle.queue.specs.Looking.{searched, handleAt};
 ghost use Prim.Native.Nat.{_<_, _≤_};
 use arena::header;
 use arena::header::Header;
@@ -65,7 +65,7 @@ fn search_in(s: &[u64], cap: u64, k: u64) -> Searched
 }
 
 pub fn search(s: &[u64], key: Key) -> Searched
-    ensures { λ r. ⌜ Looks (Searched.Refused Refusal.NotSound) (searchCall (now (s .entry)) (key .0)) (now (s .entry)) r ⌝ }
+    ensures { λ r. ⌜ SearchPromise (now (s .entry)) (key .0) r ⌝ }
 {
     let h = header::test(s);
     match h {
@@ -81,7 +81,7 @@ pub fn search(s: &[u64], key: Key) -> Searched
 
 // The key and the value of the entry that h names.
 pub fn read(s: &[u64], h: Handle) -> Reading
-    ensures { λ r. ⌜ Looks (Reading.Refused Refusal.NotSound) (readCall (now (s .entry)) h) (now (s .entry)) r ⌝ }
+    ensures { λ r. ⌜ ReadPromise (now (s .entry)) h r ⌝ }
 {
     let t = header::test(s);
     match t {

@@ -1,9 +1,6 @@
 // Laying out, the three kinds of insertion, and the look-ahead of each.
 // From the Rust: OrdInsertKind and the entry of ord/insert.rs.
-ghost use mathlib.Core.Path.{_≡_};
-ghost use Rattle.arena.specs.Laying.{layOut};
-ghost use Rattle.queue.specs.Promises.{Looks, Writes};
-ghost use Rattle.queue.specs.Placing.{insertCall, emptyCall, manualCall, aheadCall, aheadEmptyCall, aheadManualCall};
+ghost use Rattle.queue.specs.Promised.{LayOutPromise, InsertPromise, EmptyPromise, ManualPromise, AheadPromise, AheadEmptyPromise, AheadManualPromise};
 use arena::header;
 use arena::header::Header;
 use arena::laying;
@@ -19,14 +16,14 @@ use insert::place::Inserted;
 
 // Makes an empty queue of a lent store, whatever it held.
 pub fn lay_out(s: &mut [u64], capacity: u64, top: u64) -> LaidOut
-    ensures { λ r. ⌜ (now (s .exit), r) ≡ layOut (now (s .entry)) capacity top ⌝ }
+    ensures { λ r. ⌜ LayOutPromise (now (s .entry)) (now (s .exit)) capacity top r ⌝ }
 {
     laying::lay_out(s, capacity, top)
 }
 
 // Normal insertion: by the key's place in the order; an equal key replaces the value.
 pub fn insert(s: &mut [u64], key: Key, value: u64) -> Inserted
-    ensures { λ r. ⌜ Writes (Inserted.Refused Refusal.NotSound) (insertCall (now (s .entry)) (key .0) value) (now (s .entry)) (now (s .exit)) r ⌝ }
+    ensures { λ r. ⌜ InsertPromise (now (s .entry)) (now (s .exit)) (key .0) value r ⌝ }
 {
     let t = header::test(s);
     match t {
@@ -41,7 +38,7 @@ pub fn insert(s: &mut [u64], key: Key, value: u64) -> Inserted
 
 // Insertion into an empty queue only.
 pub fn insert_empty(s: &mut [u64], key: Key, value: u64) -> Inserted
-    ensures { λ r. ⌜ Writes (Inserted.Refused Refusal.NotSound) (emptyCall (now (s .entry)) (key .0) value) (now (s .entry)) (now (s .exit)) r ⌝ }
+    ensures { λ r. ⌜ EmptyPromise (now (s .entry)) (now (s .exit)) (key .0) value r ⌝ }
 {
     let t = header::test(s);
     match t {
@@ -56,7 +53,7 @@ pub fn insert_empty(s: &mut [u64], key: Key, value: u64) -> Inserted
 
 // Insertion beside the entry that h names, on the given side, or in its place.
 pub fn insert_manual(s: &mut [u64], h: Handle, side: Side, key: Key, value: u64) -> Inserted
-    ensures { λ r. ⌜ Writes (Inserted.Refused Refusal.NotSound) (manualCall (now (s .entry)) h side (key .0) value) (now (s .entry)) (now (s .exit)) r ⌝ }
+    ensures { λ r. ⌜ ManualPromise (now (s .entry)) (now (s .exit)) h side (key .0) value r ⌝ }
 {
     let t = header::test(s);
     match t {
@@ -71,7 +68,7 @@ pub fn insert_manual(s: &mut [u64], h: Handle, side: Side, key: Key, value: u64)
 
 // What `insert` would answer next, with nothing changed.
 pub fn look_ahead(s: &[u64], key: Key) -> Ahead
-    ensures { λ r. ⌜ Looks (Ahead.Refused Refusal.NotSound) (aheadCall (now (s .entry)) (key .0)) (now (s .entry)) r ⌝ }
+    ensures { λ r. ⌜ AheadPromise (now (s .entry)) (key .0) r ⌝ }
 {
     let t = header::test(s);
     match t {
@@ -86,7 +83,7 @@ pub fn look_ahead(s: &[u64], key: Key) -> Ahead
 
 // What `insert_empty` would answer next.
 pub fn look_ahead_empty(s: &[u64]) -> Ahead
-    ensures { λ r. ⌜ Looks (Ahead.Refused Refusal.NotSound) (aheadEmptyCall (now (s .entry))) (now (s .entry)) r ⌝ }
+    ensures { λ r. ⌜ AheadEmptyPromise (now (s .entry)) r ⌝ }
 {
     let t = header::test(s);
     match t {
@@ -101,7 +98,7 @@ pub fn look_ahead_empty(s: &[u64]) -> Ahead
 
 // What `insert_manual` would answer next.
 pub fn look_ahead_manual(s: &[u64], h: Handle, side: Side, key: Key) -> Ahead
-    ensures { λ r. ⌜ Looks (Ahead.Refused Refusal.NotSound) (aheadManualCall (now (s .entry)) h side (key .0)) (now (s .entry)) r ⌝ }
+    ensures { λ r. ⌜ AheadManualPromise (now (s .entry)) h side (key .0) r ⌝ }
 {
     let t = header::test(s);
     match t {

@@ -1,8 +1,6 @@
 // Removal by handle.
 // From the Rust: remove of ord/simple_ord_arena.rs.
-ghost use mathlib.Core.Path.{_≡_};
-ghost use Rattle.queue.specs.Promises.{Writes};
-ghost use Rattle.queue.specs.Taking.{removeCall};
+ghost use Rattle.queue.specs.Promised.{RemovePromise};
 use arena::header;
 use arena::header::Header;
 use handle::Handle;
@@ -12,7 +10,7 @@ use remove::removing::Removed;
 
 // Takes out the entry that h names.
 pub fn remove(s: &mut [u64], h: Handle) -> Removed
-    ensures { λ r. ⌜ Writes (Removed.Refused Refusal.NotSound) (removeCall (now (s .entry)) h) (now (s .entry)) (now (s .exit)) r ⌝ }
+    ensures { λ r. ⌜ RemovePromise (now (s .entry)) (now (s .exit)) h r ⌝ }
 {
     let t = header::test(s);
     match t {

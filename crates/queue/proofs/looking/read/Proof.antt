@@ -1,7 +1,7 @@
 use Rattle.arena.proofs.Answers.{passes-room}
 use Rattle.queue.specs.Looking.{readCall}
 use Rattle.queue.proofs.Answers.{on-passes, on-fails}
-use Rattle.queue.proofs.Promised.{read-looks}
+use Rattle.queue.proofs.Promising.{read-looks}
 use borrow.Author.Needs.{needs}
 use Rattle.queue.proofs.looking.read.Statement.{statement}
 use Rattle.queue.proofs.looking.read.Tie as tie

@@ -1,7 +1,7 @@
 use Rattle.arena.proofs.Answers.{passes-room}
 use Rattle.queue.specs.Looking.{searchCall}
 use Rattle.queue.proofs.Answers.{on-passes, on-fails, searched-key}
-use Rattle.queue.proofs.Promised.{search-looks}
+use Rattle.queue.proofs.Promising.{search-looks}
 use borrow.Author.Needs.{needs}
 use Rattle.queue.proofs.looking.search.Statement.{statement}
 use Rattle.queue.proofs.looking.search.Tie as tie

@@ -1,7 +1,7 @@
 use Rattle.arena.proofs.Answers.{passes-room}
 use Rattle.queue.specs.Placing.{insertCall}
 use Rattle.queue.proofs.Answers.{on-passes, on-fails}
-use Rattle.queue.proofs.Promised.{insert-writes}
+use Rattle.queue.proofs.Promising.{insert-writes}
 use borrow.Author.Needs.{needs}
 use Rattle.queue.proofs.placing.insert.Statement.{statement}
 use Rattle.queue.proofs.placing.insert.Tie as tie

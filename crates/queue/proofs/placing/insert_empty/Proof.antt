@@ -1,7 +1,7 @@
 use Rattle.arena.proofs.Answers.{passes-room}
 use Rattle.queue.specs.Placing.{emptyCall}
 use Rattle.queue.proofs.Answers.{on-passes, on-fails}
-use Rattle.queue.proofs.Promised.{empty-writes}
+use Rattle.queue.proofs.Promising.{empty-writes}
 use borrow.Author.Needs.{needs}
 use Rattle.queue.proofs.placing.insert_empty.Statement.{statement}
 use Rattle.queue.proofs.placing.insert_empty.Tie as tie

@@ -1,7 +1,7 @@
 use Rattle.arena.proofs.Answers.{passes-room}
 use Rattle.queue.specs.Placing.{manualCall}
 use Rattle.queue.proofs.Answers.{on-passes, on-fails}
-use Rattle.queue.proofs.Promised.{manual-writes}
+use Rattle.queue.proofs.Promising.{manual-writes}
 use borrow.Author.Needs.{needs}
 use Rattle.queue.proofs.placing.insert_manual.Statement.{statement}
 use Rattle.queue.proofs.placing.insert_manual.Tie as tie

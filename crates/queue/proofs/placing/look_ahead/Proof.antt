@@ -1,7 +1,7 @@
 use Rattle.arena.proofs.Answers.{passes-room}
 use Rattle.queue.specs.Placing.{aheadCall}
 use Rattle.queue.proofs.Answers.{on-passes, on-fails}
-use Rattle.queue.proofs.Promised.{ahead-looks}
+use Rattle.queue.proofs.Promising.{ahead-looks}
 use borrow.Author.Needs.{needs}
 use Rattle.queue.proofs.placing.look_ahead.Statement.{statement}
 use Rattle.queue.proofs.placing.look_ahead.Tie as tie

@@ -1,7 +1,7 @@
 use Rattle.arena.proofs.Answers.{passes-room}
 use Rattle.queue.specs.Placing.{aheadEmptyCall}
 use Rattle.queue.proofs.Answers.{on-passes, on-fails}
-use Rattle.queue.proofs.Promised.{ahead-empty-looks}
+use Rattle.queue.proofs.Promising.{ahead-empty-looks}
 use borrow.Author.Needs.{needs}
 use Rattle.queue.proofs.placing.look_ahead_empty.Statement.{statement}
 use Rattle.queue.proofs.placing.look_ahead_empty.Tie as tie

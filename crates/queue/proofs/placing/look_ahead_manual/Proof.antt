@@ -1,7 +1,7 @@
 use Rattle.arena.proofs.Answers.{passes-room}
 use Rattle.queue.specs.Placing.{aheadManualCall}
 use Rattle.queue.proofs.Answers.{on-passes, on-fails}
-use Rattle.queue.proofs.Promised.{ahead-manual-looks}
+use Rattle.queue.proofs.Promising.{ahead-manual-looks}
 use borrow.Author.Needs.{needs}
 use Rattle.queue.proofs.placing.look_ahead_manual.Statement.{statement}
 use Rattle.queue.proofs.placing.look_ahead_manual.Tie as tie

@@ -1,7 +1,7 @@
 use Rattle.arena.proofs.Answers.{passes-room}
 use Rattle.queue.specs.Taking.{removeCall}
 use Rattle.queue.proofs.Answers.{on-passes, on-fails}
-use Rattle.queue.proofs.Promised.{remove-writes}
+use Rattle.queue.proofs.Promising.{remove-writes}
 use borrow.Author.Needs.{needs}
 use Rattle.queue.proofs.taking.remove.Statement.{statement}
 use Rattle.queue.proofs.taking.remove.Tie as tie

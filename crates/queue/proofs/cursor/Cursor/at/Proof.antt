@@ -2,7 +2,7 @@ use Rattle.arena.proofs.Answers.{passes-room}
 use Rattle.queue.specs.Moving.{standCall}
 use Rattle.queue.specs.Moving.{standIn}
 use Rattle.queue.proofs.Answers.{on-passes, on-fails, if-live, if-dead}
-use Rattle.queue.proofs.Promised.{stand-looks}
+use Rattle.queue.proofs.Promising.{stand-looks}
 use borrow.Author.Needs.{needs}
 use Rattle.queue.proofs.cursor.Cursor.at.Statement.{statement}
 use Rattle.queue.proofs.cursor.Cursor.at.Tie as tie

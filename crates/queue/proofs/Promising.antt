@@ -1,0 +1,122 @@
+-- The public promises, call by call, from the equality with the model.
+use Prim.Native.Nat.{ℕ}
+use mathlib.Core.Path.{_≡_, refl, sym, _∙_, ap, subst⁻¹}
+use mathlib.Core.List.{List}
+use mathlib.Core.Option.{some}
+use lib.IntN.{ℤ}
+use lib.ListN.{length}
+use Rattle.handle.specs.declared.Handle.{Handle}
+use Rattle.handle.specs.declared.Side.{Side}
+use Rattle.arena.specs.Keys.{stored}
+use Rattle.arena.specs.Laying.{Good, Fresh, laid, layOut}
+use Rattle.arena.specs.declared.laying.LaidOut.{LaidOut}
+use Rattle.arena.specs.declared.laying.LaidOut.the-variants as L
+use Rattle.arena.proofs.Theorems.{laid-is, lays-out, refuses}
+use Rattle.chain.specs.Steps.{endOf}
+use Rattle.insert.specs.Kept.{Within}
+use Rattle.insert.specs.Place as I
+use Rattle.insert.specs.Ahead as A
+use Rattle.insert.specs.declared.place.Inserted.{Inserted}
+use Rattle.insert.specs.declared.ahead.Ahead.{Ahead}
+use Rattle.insert.proofs.Laws.{insert-normal-within, insert-empty-within, insert-manual-within}
+use Rattle.remove.specs.Remove.{removeBy, readBy}
+use Rattle.remove.specs.declared.removing.Removed.{Removed}
+use Rattle.remove.specs.declared.reading.Reading.{Reading}
+use Rattle.remove.proofs.Laws.{remove-kept}
+use Rattle.rules.specs.Queue.{Queue, fresh}
+use Rattle.holds.specs.Holds.{Holds}
+use Rattle.holds.proofs.FreshQueue.{fresh-holds}
+use Rattle.placed.proofs.Theorems.{normal-means, normal-ahead, empty-means, empty-ahead, manual-means, manual-ahead}
+use Rattle.taken.proofs.Means.{remove-means, read-means}
+use Rattle.queue.specs.Promised.{LayOutPromise, InsertPromise, EmptyPromise, ManualPromise, AheadPromise, AheadEmptyPromise, AheadManualPromise, RemovePromise, ReadPromise, SearchPromise, FirstPromise, LastPromise, AtPromise, BackPromise, ForwardPromise}
+use Rattle.queue.specs.Looking.{searched, searchCall, readCall}
+use Rattle.queue.specs.Moving.{movedTo, startCall, standIn, standCall, stepIn, stepCall}
+use Rattle.queue.specs.Placing.{insertCall, emptyCall, manualCall, aheadCall, aheadEmptyCall, aheadManualCall}
+use Rattle.queue.specs.Taking.{removeCall}
+use Rattle.queue.specs.declared.looking.Searched.{Searched}
+use Rattle.queue.specs.declared.cursor.Moved.{Moved}
+use Rattle.queue.proofs.Keeping.{Keeps, writes, looks}
+use Rattle.queue.proofs.Looked.{on-held, search-means, first-is, last-is, stand-is, back-is, forward-is}
+
+-- calls that look
+module _ (s : List ℕ) where
+  pub search-looks : (key : ℤ) (r : Searched) → r ≡ searchCall s key → SearchPromise s key r
+  unfolding searchCall
+  search-looks key r e = looks _ s (λ cap. searched s cap (stored key)) _ _ r e (λ q k. search-means k key)
+
+  pub read-looks : (h : Handle) (r : Reading) → r ≡ readCall s h → ReadPromise s h r
+  unfolding readCall
+  read-looks h r e = looks _ s (λ cap. readBy s cap h) _ _ r e (λ q k. rw (on-held k (λ cap. readBy s cap h) _) (read-means k h))
+
+  pub first-looks : (r : Moved) → r ≡ startCall s 0 → FirstPromise s r
+  unfolding startCall
+  first-looks r e = looks _ s (λ cap. movedTo (endOf s cap 0)) _ _ r e (λ q k. first-is k)
+
+  pub last-looks : (r : Moved) → r ≡ startCall s 1 → LastPromise s r
+  unfolding startCall
+  last-looks r e = looks _ s (λ cap. movedTo (endOf s cap 1)) _ _ r e (λ q k. last-is k)
+
+  pub stand-looks : (h : Handle) (r : Moved) → r ≡ standCall s h → AtPromise s h r
+  unfolding standCall
+  stand-looks h r e = looks _ s (λ cap. standIn s cap h) _ _ r e (λ q k. stand-is k h)
+
+  pub back-looks : (h : Handle) (r : Moved) → r ≡ stepCall s h 0 → BackPromise s h r
+  unfolding stepCall
+  back-looks h r e = looks _ s (λ cap. stepIn s cap h 0) _ _ r e (λ q k. back-is k h)
+
+  pub forward-looks : (h : Handle) (r : Moved) → r ≡ stepCall s h 1 → ForwardPromise s h r
+  unfolding stepCall
+  forward-looks h r e = looks _ s (λ cap. stepIn s cap h 1) _ _ r e (λ q k. forward-is k h)
+
+  pub ahead-looks : (key : ℤ) (r : Ahead) → r ≡ aheadCall s key → AheadPromise s key r
+  unfolding aheadCall
+  ahead-looks key r e = looks _ s (λ cap. A.aheadNormal s cap key) _ _ r e (λ q k. rw (on-held k (λ cap. A.aheadNormal s cap key) _) (normal-ahead k key))
+
+  pub ahead-empty-looks : (r : Ahead) → r ≡ aheadEmptyCall s → AheadEmptyPromise s r
+  unfolding aheadEmptyCall
+  ahead-empty-looks r e key = looks _ s (λ cap. A.aheadEmpty s cap) _ _ r e (λ q k. rw (on-held k (λ cap. A.aheadEmpty s cap) _) (empty-ahead k key))
+
+  pub ahead-manual-looks : (h : Handle) (side : Side) (key : ℤ) (r : Ahead) → r ≡ aheadManualCall s h side key → AheadManualPromise s h side key r
+  unfolding aheadManualCall
+  ahead-manual-looks h side key r e =
+      looks _ s (λ cap. A.aheadManual s cap h side key) _ _ r e (λ q k. rw (on-held k (λ cap. A.aheadManual s cap h side key) _) (manual-ahead k key h side))
+
+-- calls that write
+kept : {s t : List ℕ} {cap : ℕ} → Within s t cap → Keeps s t cap
+kept w = record { long = w .long; rest = w .rest }
+
+module _ (s t : List ℕ) (r : Inserted) (key : ℤ) (value : ℕ) where
+  pub insert-writes : (t, r) ≡ insertCall s key value → InsertPromise s t key value r
+  unfolding insertCall
+  insert-writes e =
+      writes _ s (λ cap. I.insertNormal s cap key value) _ _ (λ cap p. kept (insert-normal-within s cap key value))
+      (λ q k. let m = normal-means k key value in (m .answer, m .holds)) t r e
+
+  pub empty-writes : (t, r) ≡ emptyCall s key value → EmptyPromise s t key value r
+  unfolding emptyCall
+  empty-writes e =
+      writes _ s (λ cap. I.insertEmpty s cap key value) _ _ (λ cap p. kept (insert-empty-within s cap key value))
+      (λ q k. let m = empty-means k key value in (m .answer, m .holds)) t r e
+
+  pub manual-writes : (h : Handle) (side : Side) → (t, r) ≡ manualCall s h side key value → ManualPromise s t h side key value r
+  unfolding manualCall
+  manual-writes h side e =
+      writes _ s (λ cap. I.insertManual s cap h side key value) _ _ (λ cap p. kept (insert-manual-within s cap key value h side))
+      (λ q k. let m = manual-means k key h side value in (m .answer, m .holds)) t r e
+
+pub remove-writes : (s t : List ℕ) (r : Removed) (h : Handle) → (t, r) ≡ removeCall s h → RemovePromise s t h r
+unfolding removeCall
+remove-writes s t r h e =
+    writes _ s (λ cap. removeBy s cap h) _ _ (λ cap p. let k = remove-kept s cap h in record { long = k .long; rest = k .rest })
+    (λ q k. let m = remove-means k h in (m .answer, m .holds)) t r e
+
+-- laying out
+pub lays : (s t : List ℕ) (r : LaidOut) (cap top : ℕ) → (t, r) ≡ layOut s cap top → LayOutPromise s t cap top r
+lays s t r cap top e = record {
+  does = e;
+  lays = λ g.
+      let u : _≡_ {A = List ℕ × LaidOut} (t, r) (laid s cap top, L.Done) = e ∙ lays-out s cap top g in
+      let f : Fresh s t cap top = subst⁻¹ (λ (x : List ℕ). Fresh s x cap top) (ap (λ x. x .0) u) (laid-is s cap top (g .room)) in
+      (ap (λ x. x .1) u, f, fresh-holds s t cap top f g);
+  refuses = λ n. let u = e ∙ refuses s cap top n in (ap (λ x. x .0) u, ap (λ x. x .1) u);
+}

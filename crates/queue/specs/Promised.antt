@@ -1,0 +1,93 @@
+-- The promise of each public call, by name: its model, its reading in document 01's terms, and document 01's rule (crate `rules`).
+use Prim.Native.Nat.{ℕ, _≤_}
+use mathlib.Core.Path.{_≡_}
+use mathlib.Core.List.{List}
+use mathlib.Core.Option.{some}
+use lib.IntN.{ℤ}
+use lib.ListN.{length}
+use Rattle.handle.specs.declared.Handle.{Handle}
+use Rattle.handle.specs.declared.Side.{Side}
+use Rattle.handle.specs.declared.Refusal.the-variants.{NotSound, BadLayout}
+use Rattle.arena.specs.Keys.{stored}
+use Rattle.arena.specs.Laying.{Good, Fresh, layOut}
+use Rattle.arena.specs.declared.laying.LaidOut.{LaidOut}
+use Rattle.arena.specs.declared.laying.LaidOut.the-variants as L
+use Rattle.insert.specs.declared.place.Inserted.{Inserted}
+use Rattle.insert.specs.declared.place.Inserted.the-variants as I
+use Rattle.insert.specs.declared.ahead.Ahead.{Ahead}
+use Rattle.insert.specs.declared.ahead.Ahead.the-variants as A
+use Rattle.remove.specs.declared.removing.Removed.{Removed}
+use Rattle.remove.specs.declared.removing.Removed.the-variants as X
+use Rattle.remove.specs.declared.reading.Reading.{Reading}
+use Rattle.remove.specs.declared.reading.Reading.the-variants as R
+use Rattle.wavl.specs.Tree.{left, right}
+use Rattle.rules.specs.Queue.{fresh}
+use Rattle.rules.specs.Insert.{insertNormal, insertEmpty, insertManual, aheadNormal, aheadEmpty, aheadManual}
+use Rattle.rules.specs.Remove.{remove}
+use Rattle.rules.specs.Look.{read, searchFor, first, last, stepTo}
+use Rattle.holds.specs.Handles.{plain}
+use Rattle.holds.specs.Holds.{Holds}
+use Rattle.placed.specs.Meaning.{insertedMeans, aheadMeans, sideMeans}
+use Rattle.taken.specs.Meaning.{removedMeans, readMeans}
+use Rattle.queue.specs.Promises.{Writes, Looks}
+use Rattle.queue.specs.Readings.{searchMeans, movedMeans, standAt}
+use Rattle.queue.specs.Placing.{insertCall, emptyCall, manualCall, aheadCall, aheadEmptyCall, aheadManualCall}
+use Rattle.queue.specs.Taking.{removeCall}
+use Rattle.queue.specs.Looking.{searchCall, readCall}
+use Rattle.queue.specs.Moving.{startCall, standCall, stepCall}
+use Rattle.queue.specs.declared.looking.Searched.{Searched}
+use Rattle.queue.specs.declared.looking.Searched.the-variants as S
+use Rattle.queue.specs.declared.cursor.Moved.{Moved}
+use Rattle.queue.specs.declared.cursor.Moved.the-variants as M
+
+-- Laying out, on every store: "BadLayout: laying out with capacity or top generation out of range, or a store too short", and then
+-- nothing changes; else the store holds the fresh queue, and `Fresh` says every word of it.
+pub record LayOutPromise (s t : List ℕ) (capacity top : ℕ) (r : LaidOut) : Type 0 where
+  pub does : (t, r) ≡ layOut s capacity top
+  pub lays : Good (length s) capacity top → (r ≡ L.Done) × Fresh s t capacity top × Holds t (fresh capacity top)
+  pub refuses : ¬ Good (length s) capacity top → (t ≡ s) × (r ≡ L.Refused BadLayout)
+
+abbrev pub InsertPromise : List ℕ → List ℕ → ℤ → ℕ → Inserted → Type 0
+InsertPromise s t key value r = Writes (I.Refused NotSound) (insertCall s key value) insertedMeans (insertNormal (stored key) value) s t r
+
+abbrev pub EmptyPromise : List ℕ → List ℕ → ℤ → ℕ → Inserted → Type 0
+EmptyPromise s t key value r = Writes (I.Refused NotSound) (emptyCall s key value) insertedMeans (insertEmpty (stored key) value) s t r
+
+abbrev pub ManualPromise : List ℕ → List ℕ → Handle → Side → ℤ → ℕ → Inserted → Type 0
+ManualPromise s t h side key value r =
+    Writes (I.Refused NotSound) (manualCall s h side key value) insertedMeans (insertManual (plain h) (sideMeans side) (stored key) value) s t r
+
+abbrev pub AheadPromise : List ℕ → ℤ → Ahead → Type 0
+AheadPromise s key r = Looks (A.Refused NotSound) (aheadCall s key) aheadMeans (aheadNormal (stored key)) s r
+
+-- the look-ahead of Empty serves any key
+abbrev pub AheadEmptyPromise : List ℕ → Ahead → Type 0
+AheadEmptyPromise s r = (key : ℤ) → Looks (A.Refused NotSound) (aheadEmptyCall s) aheadMeans (aheadEmpty (stored key)) s r
+
+abbrev pub AheadManualPromise : List ℕ → Handle → Side → ℤ → Ahead → Type 0
+AheadManualPromise s h side key r =
+    Looks (A.Refused NotSound) (aheadManualCall s h side key) aheadMeans (aheadManual (plain h) (sideMeans side) (stored key)) s r
+
+abbrev pub RemovePromise : List ℕ → List ℕ → Handle → Removed → Type 0
+RemovePromise s t h r = Writes (X.Refused NotSound) (removeCall s h) removedMeans (remove (plain h)) s t r
+
+abbrev pub ReadPromise : List ℕ → Handle → Reading → Type 0
+ReadPromise s h r = Looks (R.Refused NotSound) (readCall s h) readMeans (read (plain h)) s r
+
+abbrev pub SearchPromise : List ℕ → ℤ → Searched → Type 0
+SearchPromise s key r = Looks (S.Refused NotSound) (searchCall s key) searchMeans (λ q. some (searchFor (stored key) q)) s r
+
+abbrev pub FirstPromise : List ℕ → Moved → Type 0
+FirstPromise s r = Looks (M.Refused NotSound) (startCall s 0) movedMeans first s r
+
+abbrev pub LastPromise : List ℕ → Moved → Type 0
+LastPromise s r = Looks (M.Refused NotSound) (startCall s 1) movedMeans last s r
+
+abbrev pub AtPromise : List ℕ → Handle → Moved → Type 0
+AtPromise s h r = Looks (M.Refused NotSound) (standCall s h) movedMeans (standAt (plain h)) s r
+
+abbrev pub BackPromise : List ℕ → Handle → Moved → Type 0
+BackPromise s h r = Looks (M.Refused NotSound) (stepCall s h 0) movedMeans (stepTo left (plain h)) s r
+
+abbrev pub ForwardPromise : List ℕ → Handle → Moved → Type 0
+ForwardPromise s h r = Looks (M.Refused NotSound) (stepCall s h 1) movedMeans (stepTo right (plain h)) s r
