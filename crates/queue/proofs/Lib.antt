@@ -2,3 +2,5 @@ pub mod Answers
 pub mod Looked
 pub mod Keeping
 pub mod Promising
+pub mod Single
+pub mod Follows
