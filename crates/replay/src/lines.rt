@@ -1,5 +1,7 @@
 // Lines out of the bytes that were read. A line that goes over the end of a part is kept in `line` till the rest comes.
 // `held` counts its bytes so far; 129 stands for too many.
+use crate::answer;
+use crate::answer::Answer;
 use crate::serve;
 
 // The longest line that is read.
@@ -53,6 +55,6 @@ pub fn finish(
     if n <= bytes.len() {
         serve::line(&bytes[..n], s, t, out, at);
     } else {
-        serve::bad_line(out, at);
+        answer::write(out, at, Answer::BadLine);
     }
 }

@@ -1,6 +1,9 @@
-// `list` and `dump`: the entries in order, walked by the cursor; ranks and links as the store has them. And `check`.
+// `list` and `dump`: the entries in order, walked by the cursor; ranks and links as the store has them.
+// Both are many lines, so they are written as they are found.
 ghost use Prim.Native.Nat.{_<_, _≤_};
 ghost use Rattle.arena.specs.Words.{Room};
+use crate::answer;
+use crate::answer::Answer;
 use crate::out;
 use crate::table;
 use arena::header;
@@ -21,15 +24,6 @@ use handle::Refusal;
 use queue::cursor::Cursor;
 use queue::cursor::Moved;
 use remove::reading::Reading;
-
-// Answers for the header alone until the crate that decides soundness is there: then its call takes this one's place.
-pub fn answer_check(s: &[u64], o: &mut [u8; 65536], at: &mut usize) {
-    let h = header::test(s);
-    match h {
-        Header::Passes(_) => out::text(o, at, b"sound\n"),
-        Header::Fails => out::text(o, at, b"unsound\n"),
-    }
-}
 
 // How many entries the chain has, counted up to `most`.
 fn chain_length(s: &[u64], most: u64) -> u64 {
@@ -52,7 +46,7 @@ pub fn list(s: &[u64], o: &mut [u8; 65536], at: &mut usize) {
             counts(s, cap, o, at);
             list_entries(s, cap, o, at);
         }
-        Header::Fails => out::refused(o, at, Refusal::NotSound),
+        Header::Fails => answer::write(o, at, Answer::Refused(Refusal::NotSound)),
     }
 }
 
@@ -68,7 +62,7 @@ fn counts(s: &[u64], cap: u64, o: &mut [u8; 65536], at: &mut usize)
     out::number(o, at, free);
     out::text(o, at, b" retired ");
     out::number(o, at, rest(cap, live, free));
-    out::end_line(o, at);
+    out::byte(o, at, b'\n');
 }
 
 // What is left of `all` without two parts; 0 where they are too large.
@@ -106,7 +100,7 @@ fn list_entry(s: &[u64], cap: u64, h: Handle, o: &mut [u8; 65536], at: &mut usiz
     out::more(o, at, i);
     out::more(o, at, h.generation.0);
     rank(s, cap, i, o, at);
-    out::end_line(o, at);
+    out::byte(o, at, b'\n');
 }
 
 fn key_and_value(s: &[u64], h: Handle, o: &mut [u8; 65536], at: &mut usize) {
@@ -133,7 +127,7 @@ pub fn dump(s: &[u64], t: &[u64; 17409], o: &mut [u8; 65536], at: &mut usize) {
             ends(s, cap, t, o, at);
             dump_entries(s, cap, t, o, at);
         }
-        Header::Fails => out::refused(o, at, Refusal::NotSound),
+        Header::Fails => answer::write(o, at, Answer::Refused(Refusal::NotSound)),
     }
 }
 
@@ -152,7 +146,7 @@ fn ends(s: &[u64], cap: u64, t: &[u64; 17409], o: &mut [u8; 65536], at: &mut usi
     link(t, o, at, first);
     out::text(o, at, b" last");
     link(t, o, at, last);
-    out::end_line(o, at);
+    out::byte(o, at, b'\n');
 }
 
 // A space, and the number of the insertion whose entry is in a slot, or `-` for no slot.
@@ -189,7 +183,7 @@ fn dump_entry(s: &[u64], cap: u64, h: Handle, t: &[u64; 17409], o: &mut [u8; 655
     key_and_value(s, h, o, at);
     rank(s, cap, i, o, at);
     links(s, cap, i, t, o, at);
-    out::end_line(o, at);
+    out::byte(o, at, b'\n');
 }
 
 fn links(s: &[u64], cap: u64, i: u64, t: &[u64; 17409], o: &mut [u8; 65536], at: &mut usize)

@@ -1,7 +1,6 @@
 // Reads a script on standard input and writes the queue's answers on standard output, a line for a line.
 // The script language is that of paired runs: the same script gives the same bytes from the Rust side.
-mod command;
-mod fields;
+mod answer;
 mod lines;
 mod listing;
 mod looking;
@@ -9,7 +8,6 @@ mod out;
 mod placing;
 mod serve;
 mod table;
-mod words;
 
 use libc::STDERR_FILENO;
 use libc::STDIN_FILENO;

@@ -3,7 +3,6 @@
 use arena::entries::Entry;
 use arena::keys;
 use handle::Key;
-use handle::Refusal;
 use libc::STDERR_FILENO;
 use libc::STDOUT_FILENO;
 
@@ -71,14 +70,4 @@ pub fn key(out: &mut [u8; 65536], at: &mut usize, k: Key) {
 pub fn entry(out: &mut [u8; 65536], at: &mut usize, e: Entry) {
     key(out, at, e.key);
     more(out, at, e.value);
-}
-
-pub fn end_line(out: &mut [u8; 65536], at: &mut usize) {
-    byte(out, at, b'\n');
-}
-
-pub fn refused(out: &mut [u8; 65536], at: &mut usize, r: Refusal) {
-    text(out, at, b"err ");
-    number(out, at, r.number());
-    end_line(out, at);
 }

@@ -11,8 +11,8 @@ slice-aggregate-line c = sym (length-take-le _ _ (omega arith))
 line-requires : tie.Need-line-requires
 line-requires c κs = search needs
 
-bad-line-requires : tie.Need-bad-line-requires
-bad-line-requires c κs = search needs
+write-requires : tie.Need-write-requires
+write-requires c κs = search needs
 
 returns : tie.Need-returns
 returns c = search needs
@@ -22,4 +22,4 @@ returns-2 c = search needs
 
 pub finish-spec : {M : Type 1} → statement M
 finish-spec =
-    tie.close (tie.spec slice-aggregate-line line-requires bad-line-requires returns returns-2)
+    tie.close (tie.spec slice-aggregate-line line-requires write-requires returns returns-2)
