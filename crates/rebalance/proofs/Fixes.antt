@@ -27,6 +27,10 @@ module _ (s : List ℕ) (cap p0 p1 p2 d01 d12 : ℕ) where
   unfolding fixTurn
   fix-reads x r1 r2 p3 s1 rs1 e₁ e₂ e₃ e₄ e₅ e = rw (← e₁, ← e₂, ← e₃, ← e₄, ← e₅) e
 
+  pub fix-low : (r1 r2 p3 s1 rs1 : ℕ) → r1 < r2 → _≡_ {A = List ℕ × Fixed} (s, Done) (fixWith s cap p0 p1 p2 d01 d12 r1 r2 p3 s1 rs1)
+  unfolding fixWith
+  fix-low r1 r2 p3 s1 rs1 h = rw (lt-ltb r1 r2 h)
+
   module _ (r1 r2 p3 s1 rs1 : ℕ) (over : r2 ≤ r1) (low : r1 < budget) (low₁ : rs1 < budget) (gap : rs1 + 1 ≡ r2 → ⊥) (x : List ℕ) where
     pub fix-same : d01 ≡ d12 → x ≡ turnedSame s cap d01 p0 p1 p2 p3 s1 → _≡_ {A = List ℕ × Fixed} (x, Done) (fixWith s cap p0 p1 p2 d01 d12 r1 r2 p3 s1 rs1)
     unfolding fixWith

@@ -38,7 +38,16 @@ lies-requires-2 : tie.Need-lies-requires-2
 lies-requires-2 c κs = search needs
 
 returns-4 : tie.Need-returns-4
-returns-4 c = (search (beside-past, not-true, not-false), tt)
+returns-4 c =
+    let l₂ = c .before in
+    let f₃ = l₂ .before in
+    let e₃ = f₃ .before in
+    let e₂ = e₃ .before in
+    let f₂ = e₂ .before in
+    let e₁ = f₂ .before in
+    let l₁ = e₁ .before in
+    let f₁ = l₁ .before in
+    (beside-past _ _ _ _ _ _ (f₁ .field .ensures) _ (l₁ .lies .ensures) (not-false _ (e₁ .if1 .left)) _ (f₂ .field2 .ensures) (e₂ .if2 .left) (e₃ .if3 .left) _ (f₃ .field3 .ensures) _ (l₂ .lies2 .ensures) (not-true _ (c .if4 .taken)), tt)
 
 place-beside-requires-2 : tie.Need-place-beside-requires-2
 place-beside-requires-2 c κs = search needs

@@ -1,6 +1,6 @@
 use Rattle.arena.proofs.Paths.{paths}
 use Rattle.rebalance.specs.Ranks.{fixWith}
-use Rattle.rebalance.proofs.Fixes.{fix-reads, fix-same, fix-across}
+use Rattle.rebalance.proofs.Fixes.{fix-reads, fix-low, fix-same, fix-across}
 use borrow.Author.Needs.{needs}
 use Rattle.rebalance.proofs.ranks.fix_turn.Statement.{statement}
 use Rattle.rebalance.proofs.ranks.fix_turn.Tie as tie
@@ -27,8 +27,7 @@ same-length : tie.Need-same-length
 same-length c = search needs
 
 returns : tie.Need-returns
-unfolding fixWith
-returns c = (search (fix-reads, paths) depth 12, tt)
+returns c = (search (fix-reads, fix-low), tt)
 
 same-length-2 : tie.Need-same-length-2
 same-length-2 c = search needs
