@@ -27,7 +27,13 @@ same-length : tie.Need-same-length
 same-length c = search needs
 
 returns : tie.Need-returns
-returns c = (search (fix-reads, fix-low), tt)
+returns c =
+    let r = c .before in
+    let c₄ = r .before .before in
+    let c₃ = c₄ .before .before in
+    let c₂ = c₃ .before .before in
+    let c₁ = c₂ .before .before in
+    (fix-reads _ _ _ _ _ _ _ _ _ _ _ _ _ (c₁ .field .ensures) (c₂ .field2 .ensures) (c₃ .field3 .ensures) (c₄ .field4 .ensures) (r .rank-of .ensures) (fix-low _ _ _ _ _ _ _ _ _ _ _ _ (c .if1 .taken)), tt)
 
 same-length-2 : tie.Need-same-length-2
 same-length-2 c = search needs
