@@ -17,7 +17,7 @@ use Rattle.wavl.proofs.Removed.{beside}
 use Rattle.lower.specs.Climb.{climbFrom}
 use Rattle.holds.specs.Ends.{number}
 use Rattle.holds.specs.Links.{TreeWords}
-use Rattle.taken.specs.Kept.{TreeOnly}
+use Rattle.taken.proofs.Kept.{TreeOnly}
 
 -- the rank at the end of a way from a tree of rank h
 abbrev pub peak : ℕ → Way → ℕ

@@ -24,16 +24,13 @@ use Rattle.lower.specs.Climb.{goUp, onward, lowerOne, lowerBoth, climbTurn, onC
 use Rattle.lower.specs.declared.climbing.Climbed.the-variants.{Done}
 use Rattle.holds.specs.Ends.{topSlot, number}
 use Rattle.holds.specs.Links.{Node, Links, TreeWords}
-use Rattle.holds.specs.Writes.{Only}
+use Rattle.holds.proofs.AnyDepth.{Regrown}
 use Rattle.holds.proofs.Has.{Has, Distinct}
 use Rattle.holds.proofs.Trees.{opened}
-use Rattle.holds.proofs.Ways.{Parted, unplugged, has-plug, has-way}
-use Rattle.taken.specs.Kept.{TreeOnly}
-use Rattle.taken.proofs.Kept.{tree-none, tree-trans}
-use Rattle.taken.proofs.Places.{HookHead, AtPlace, tree-only}
-use Rattle.taken.proofs.Turns.{once-words, once-only}
-use Rattle.taken.proofs.Twice.{twice-words, twice-only}
-use Rattle.taken.proofs.Lowered.{as-node, top-entry, node-other, lowered-words, lowered-only, upTo, goes-up}
+use Rattle.holds.proofs.Ways.{Parted, unplugged}
+use Rattle.taken.proofs.Kept.{TreeOnly, tree-none, tree-trans}
+use Rattle.taken.proofs.Turns.{once-turned, twice-turned}
+use Rattle.taken.proofs.Lowered.{as-node, top-entry, node-other, lowered, upTo, goes-up}
 use Rattle.taken.proofs.Climbing.{peak, peak-above, Climbing, Came, climbUp}
 use Rattle.taken.proofs.Turning.{turn-ends, turn-lowers, turn-rotates, turn-lowers-both, turn-rotates-twice}
 
@@ -77,9 +74,6 @@ module _ (s : List ℕ) (cap : ℕ) (few : cap ≤ noSlot) (l : List ℕ) (d : S
   member : (j : ℕ) → Has j (plug n1 q) → In j l
   member j h = rw are at h
 
-  of-place : (t : List ℕ) (y : Tree) → slots (inorder (plug y q)) ≡ l → Only s t cap (AtPlace (λ j. Has j y) q) (HookHead q) → TreeOnly s t cap l
-  of-place t y e o = tree-only s t cap (λ j. Has j y) q l o (λ j h. rw e at (has-plug j q y h)) (λ j h. rw e at (has-way j q y h))
-
   top : r1 < 64
   top = let h = peak-above r1 q (c .way .2) in let i = c .low in omega arith
 
@@ -122,12 +116,12 @@ module _ (s : List ℕ) (cap : ℕ) (few : cap ≤ noSlot) (l : List ℕ) (d : S
         let k = lower-way (omega arith) in
         let f = c .way .1 in
         let e : rank s0 + 1 ≡ r1 - 1 = omega arith in
-        let v = lowered-words s cap (c .room) d n0 e1 r1 s0 q D W (r1 - 1) in
+        let v = lowered s cap few (c .room) l d n0 e1 r1 s0 q (r1 - 1) D member W in
         let m : slots (inorder (plug x q)) ≡ l = ap slots (plug-same q x n1 (node-same d e1 (r1 - 1) r1 n0 n0 s0 s0 refl refl)) ∙ are in
         goes-on t x (turn-lowers s cap few d n0 e1 r1 s0 q w low0 h there lows g ∙ rw e)
-        (goes-up t cap few d n0 e1 (r1 - 1) s0 q (rw m (c .once)) v)
+        (goes-up t cap few d n0 e1 (r1 - 1) s0 q (rw m (c .once)) (v .words))
         (record {
-          words = v;
+          words = v .words;
           slots-are = m;
           once = c .once;
           room = rw (length-put s cap i1 RANK (r1 - 1)) (c .room);
@@ -136,7 +130,7 @@ module _ (s : List ℕ) (cap : ℕ) (few : cap ≤ noSlot) (l : List ℕ) (d : S
           some = omega arith;
           low = k .1;
         })
-        (lowered-only s cap (c .room) d n0 e1 r1 s0 q D W (r1 - 1) l member)
+        (v .only)
         (remove-lower n0 d e1 r1 s0 q h g)
 
     -- and one above s0, whose children a and b stand on the sides d and its other
@@ -168,16 +162,15 @@ module _ (s : List ℕ) (cap : ℕ) (few : cap ≤ noSlot) (l : List ℕ) (d : S
       D2 : Distinct (plug (node d n0 e1 r1 (node d a (entry s0) (rank s0) b)) q)
       D2 = rw s0-is at D
 
-      w2 : Parted s cap (node d n0 e1 r1 (node d a (entry s0) (rank s0) b)) q
-      w2 = rw s0-is at (unplugged s cap q n1 W)
+      W2 : TreeWords s cap (plug (node d n0 e1 r1 (node d a (entry s0) (rank s0) b)) q)
+      W2 = rw s0-is at W
 
       pub rotates : rank b + 1 ≡ rank s0 → Out
       unfolding turnOnce
       rotates k =
+          let v = once-turned s cap few (c .room) l d n0 e1 r1 a (entry s0) (rank s0) b q (rank a + 1) D2 (λ j z. rw are2 at z) W2 in
           ended _ (plug (rotate d n0 e1 r1 s0) q) (turn-rotates s cap few d n0 e1 r1 s0 q w low0 h there lows g lowa lowb k)
-          (once-words s cap few (c .room) d n0 e1 r1 a (entry s0) (rank s0) b q (rank a + 1) D2 w2)
-          (of-place _ _ are2 (once-only s cap few (c .room) d n0 e1 r1 a (entry s0) (rank s0) b q (rank a + 1) D2 w2))
-          (remove-rotate n0 d e1 r1 s0 q h g k)
+          (v .words) (v .only) (remove-rotate n0 d e1 r1 s0 q h g k)
 
       -- s0 is lowered first, from its own place under n1
       abbrev up : Way
@@ -202,12 +195,12 @@ module _ (s : List ℕ) (cap : ℕ) (few : cap ≤ noSlot) (l : List ℕ) (d : S
       Wa : TreeWords s cap (plug (node d a (entry s0) (rank s0) b) up)
       Wa = rw whole-is W
 
+      first : Regrown s s1 cap l (plug y up)
+      first = lowered s cap few (c .room) l d a (entry s0) (rank s0) b up (rank s0 - 1) Da (λ j z. member j (rw whole-is at z)) Wa
+
       W1 : TreeWords s1 cap (plug (node d n0 e1 r1 y) q)
       unfolding plug
-      W1 = subst (λ (z : Tree). TreeWords s1 cap (plug z q)) (node-other d y e1 r1 n0) (lowered-words s cap (c .room) d a (entry s0) (rank s0) b up Da Wa (rank s0 - 1))
-
-      only1 : TreeOnly s s1 cap l
-      only1 = lowered-only s cap (c .room) d a (entry s0) (rank s0) b up Da Wa (rank s0 - 1) l (λ j z. member j (rw whole-is at z))
+      W1 = subst (λ (z : Tree). TreeWords s1 cap (plug z q)) (node-other d y e1 r1 n0) (first .words)
 
       are1 : slots (inorder (plug (node d n0 e1 r1 y) q)) ≡ l
       are1 = ap slots (plug-same q (node d n0 e1 r1 y) n1 (node-same d e1 r1 (r1 - 1) n0 n0 y y refl refl ∙ both-same d n0 e1 r1 r1 s0 there)) ∙ are
@@ -227,13 +220,13 @@ module _ (s : List ℕ) (cap : ℕ) (few : cap ≤ noSlot) (l : List ℕ) (d : S
           let e2 : rank n0 + 1 ≡ rank s0 - 1 = omega arith in
           let t = put s1 cap i1 RANK (r1 - 1) in
           let x = Taking.lowerBoth d n0 e1 r1 s0 in
-          let v = lowered-words s1 cap room1 d n0 e1 r1 y q D1 W1 (r1 - 1) in
+          let v = lowered s1 cap few room1 l d n0 e1 r1 y q (r1 - 1) D1 (λ j z. rw are1 at z) W1 in
           let m2 : slots (inorder (plug x q)) ≡ l = ap slots (plug-same q x n1 (both-same d n0 e1 r1 r1 s0 there)) ∙ are in
           let z = lower-way (omega arith) in
           goes-on t x (turn-lowers-both s cap few d n0 e1 r1 s0 q w low0 h there lows g lowa lowb k m ∙ rw (e, e2))
-          (goes-up t cap few d n0 e1 (r1 - 1) y q (rw m2 (c .once)) v)
+          (goes-up t cap few d n0 e1 (r1 - 1) y q (rw m2 (c .once)) (v .words))
           (record {
-            words = v;
+            words = v .words;
             slots-are = m2;
             once = c .once;
             room = rw (length-put s1 cap i1 RANK (r1 - 1)) room1;
@@ -242,7 +235,7 @@ module _ (s : List ℕ) (cap : ℕ) (few : cap ≤ noSlot) (l : List ℕ) (d : S
             some = omega arith;
             low = z .1;
           })
-          (tree-trans cap l s s1 t only1 (lowered-only s1 cap room1 d n0 e1 r1 y q D1 W1 (r1 - 1) l (λ j z. rw are1 at z)))
+          (tree-trans cap l s s1 t (first .only) (v .only))
           (remove-lower-both n0 d e1 r1 s0 q h g k m)
 
       -- a, the inner child of s0, is there and rises
@@ -262,8 +255,8 @@ module _ (s : List ℕ) (cap : ℕ) (few : cap ≤ noSlot) (l : List ℕ) (d : S
         D3 : Distinct (plug old q)
         D3 = rw old-is D
 
-        w3 : Parted s cap old q
-        w3 = unplugged s cap q old (rw old-is W)
+        W3 : TreeWords s cap (plug old q)
+        W3 = rw old-is W
 
         O : Links s cap i0 a
         O = opened s cap d i1 a (entry s0) (rank s0) b (rw s0-is at (w .way .1)) .1
@@ -277,11 +270,10 @@ module _ (s : List ℕ) (cap : ℕ) (few : cap ≤ noSlot) (l : List ℕ) (d : S
         pub rotates-twice : Out
         unfolding turnTwice turnTwiceWith hung
         rotates-twice =
+            let v = twice-turned s cap few (c .room) l d n0 e1 r1 (child d a) (entry a) (rank a) (child (other d) a) (entry s0) (rank s0) b q D3 (λ j z. rw are at (rw old-is at z)) W3 in
             ended _ (plug (rotateTwice d n0 e1 r1 s0 a) q)
             (turn-rotates-twice s cap few d n0 e1 r1 s0 q w low0 h there lows g lowa lowb k m lows-a ∙ rw (top-entry a there-a, N .near-is, N .far-is))
-            (twice-words s cap few (c .room) d n0 e1 r1 (child d a) (entry a) (rank a) (child (other d) a) (entry s0) (rank s0) b q D3 w3)
-            (of-place _ old (rw old-is are) (twice-only s cap few (c .room) d n0 e1 r1 (child d a) (entry a) (rank a) (child (other d) a) (entry s0) (rank s0) b q D3 w3))
-            (remove-rotate-twice n0 d e1 r1 s0 q h g k m)
+            (v .words) (v .only) (remove-rotate-twice n0 d e1 r1 s0 q h g k m)
 
   -- document 01's tests, in its order
   pub turned : Out

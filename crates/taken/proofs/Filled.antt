@@ -20,13 +20,13 @@ use Rattle.wavl.specs.Ranks.{Ranks}
 use Rattle.wavl.proofs.Placed.{WayRanks, unplug-ranks}
 use Rattle.remove.specs.Take.{settleAt, filledFrom, filledBy}
 use Rattle.holds.specs.Links.{TreeWords}
-use Rattle.holds.specs.Ways.{parent}
+use Rattle.holds.specs.Ways.{parent, sideIn}
 use Rattle.holds.proofs.Has.{Has, Distinct, has-top}
 use Rattle.holds.proofs.Ways.{unplugged, HasWay, has-plug, above-apart}
+use Rattle.holds.proofs.Trees.{LinkOf}
+use Rattle.holds.proofs.Reshaped.{IsRoot}
 use Rattle.holds.proofs.Writes.{only-weaken}
-use Rattle.taken.specs.Kept.{TreePlace, AtRoot}
 use Rattle.taken.proofs.Kept.{tree-trans}
-use Rattle.taken.proofs.Places.{sideNo}
 use Rattle.taken.proofs.Climbing.{peak, Came}
 use Rattle.taken.proofs.Settled.{closing, settled}
 use Rattle.taken.proofs.Lifted.{lifted, lift-is, lifted-only, lifted-room, lifted-words, lifted-distinct, lifted-gone, lifted-member}
@@ -59,7 +59,7 @@ module _ (d : Side) (x e : Entry) (r : ℕ) (b : Tree) (p : Way) where
 
 pub came-weaken : (s : List ℕ) (cap : ℕ) (l m : List ℕ) (t : Tree) (y : List ℕ × Bool) → ((j : ℕ) → In j l → In j m) → Came s cap l t y → Came s cap m t y
 came-weaken s cap l m t y f k =
-    record { yes = k .yes; words = k .words; only = only-weaken s (y .0) cap (TreePlace l) (TreePlace m) AtRoot AtRoot (λ j g z. (f j (z .0), z .1, z .2)) (λ h z. z) (k .only) }
+    record { yes = k .yes; words = k .words; only = only-weaken s (y .0) cap (LinkOf l) (LinkOf m) IsRoot IsRoot (λ j g z. record { slot-in = f j (z .slot-in); field-is = z .field-is }) (λ h z. z) (k .only) }
 
 module _ (s : List ℕ) (cap : ℕ) (few : cap ≤ noSlot) (room : Room s cap) (c : Tree) (e : Entry) (q : ℕ) (w : Way) (d : Side) (x : Entry) (r : ℕ) (b : Tree) (p : Way) where
   abbrev M : Tree
@@ -132,7 +132,7 @@ module _ (s : List ℕ) (cap : ℕ) (few : cap ≤ noSlot) (room : Room s cap) (
     one-up : q ≡ suc (rank c)
     one-up = let f = parts .0 .2 in omega arith
 
-    settles : Came s2 cap (slots (inorder (plug c (P e)))) (closing c (P e)) (settleAt s2 cap (parent (P e)) (sideNo (P e)))
+    settles : Came s2 cap (slots (inorder (plug c (P e)))) (closing c (P e)) (settleAt s2 cap (parent (P e)) (sideIn (P e)))
     settles =
         settled cap few (slots (inorder (plug c (P e)))) s2 c (P e) (record {
           words = W2;
@@ -144,16 +144,16 @@ module _ (s : List ℕ) (cap : ℕ) (few : cap ≤ noSlot) (room : Room s cap) (
           low = subst (λ (h : ℕ). peak h (P e) < 64) one-up (rw (peak-swap d x e r b p w q, ← peak-rank (P x) M) low);
         })
 
-    filled-is : filledBy s cap i m ≡ settleAt s2 cap (parent (P e)) (sideNo (P e))
+    filled-is : filledBy s cap i m ≡ settleAt s2 cap (parent (P e)) (sideIn (P e))
     unfolding filledBy filledFrom
     filled-is =
         rw (lift-is s cap few room c e q (P x) D W, stands-is s1 cap few room1 (pick d (plug c w) b) x r (pick d b (plug c w)) p D1 W1 e lowm gone)
         (go w D s2)
       where
         go : (w : Way) → Distinct (plug M (w ++ (step d x r b ∷ p))) → (t : List ℕ)
-            → ifte (eqb (parent (w ++ (step d x r b ∷ p))) i) (settleAt t cap m (sideNo (w ++ (step d x r b ∷ p))))
-            (settleAt t cap (parent (w ++ (step d x r b ∷ p))) (sideNo (w ++ (step d x r b ∷ p))))
-            ≡ settleAt t cap (parent (w ++ (step d e r b ∷ p))) (sideNo (w ++ (step d e r b ∷ p)))
+            → ifte (eqb (parent (w ++ (step d x r b ∷ p))) i) (settleAt t cap m (sideIn (w ++ (step d x r b ∷ p))))
+            (settleAt t cap (parent (w ++ (step d x r b ∷ p))) (sideIn (w ++ (step d x r b ∷ p))))
+            ≡ settleAt t cap (parent (w ++ (step d e r b ∷ p))) (sideIn (w ++ (step d e r b ∷ p)))
         go [] D t = rw (eq-eqb i i refl)
         go (step c f k u ∷ w) D t = rw (ne-eqb (f .slot) i (λ z. above-apart c f k u (w ++ (step d x r b ∷ p)) M D i (has-end d x e r b p w) (inl (sym z))))
 

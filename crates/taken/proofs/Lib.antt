@@ -1,8 +1,5 @@
-pub mod Steps
 pub mod Kept
-pub mod Places
 pub mod Turns
-pub mod Twice
 pub mod Lowered
 pub mod Turning
 pub mod Climbing

@@ -1,32 +1,31 @@
--- The other writes of the climb in the words: a rank, at any depth. And what the climb reads: the slot above, and the side there.
+-- A rank written in the words, at any depth; and what the climb reads there: a child's rank, the slot above, the side below it.
 -- A reader may rely on: a rank's write changes that rank in the tree and nothing else.
-use Prim.Native.Nat.{ℕ, _≤_}
+use Prim.Native.Nat.{ℕ, _+_, _-_, _≤_, _<_}
 use mathlib.Core.Path.{_≡_, refl, sym, _∙_}
 use mathlib.Core.List.{List, [], _∷_}
 use native.Mathlib.Omega.{arith}
-use borrow.Author.Tests.{lt-ltb, le-ltb}
+use borrow.Author.Tests.{lt-ltb, le-ltb, eq-eqb, ne-eqb, lt-leb}
 use Rattle.handle.specs.Numbers.{noSlot}
-use Rattle.arena.specs.Words.{Room, put, RANK}
+use Rattle.arena.specs.Words.{Room, field, put, LEFT, RIGHT, RANK}
 use Rattle.wavl.specs.Lists.{In}
-use Rattle.wavl.specs.Entry.{Entry}
-use Rattle.wavl.specs.Tree.{Side, left, right, other, Tree, tip, fork, node, rank, entry, child}
+use Rattle.wavl.specs.Entry.{Entry, slots}
+use Rattle.wavl.specs.Tree.{Side, left, right, other, Tree, tip, fork, node, rank, entry, child, inorder}
 use Rattle.wavl.specs.Way.{step, Way, plug}
-use Rattle.tree.specs.Links.{sideOf}
+use Rattle.wavl.proofs.Order.{node-same}
+use Rattle.tree.specs.Links.{rankOf, sideOf}
 use Rattle.lower.specs.Climb.{goUpTo, goUp}
 use Rattle.lower.specs.declared.climbing.Climbed.{Climbed}
 use Rattle.lower.specs.declared.climbing.Climbed.the-variants.{Done, Up}
 use Rattle.holds.specs.Ends.{topSlot, number}
-use Rattle.holds.specs.Links.{Node, Links, TreeWords}
+use Rattle.holds.specs.Links.{Links, TreeWords}
 use Rattle.holds.specs.Ways.{parent}
-use Rattle.holds.specs.Writes.{Only}
-use Rattle.holds.proofs.Has.{Has, Distinct, Apart, apart, has-top}
-use Rattle.holds.proofs.Trees.{number-small, opened, closed, slot-low, carry}
-use Rattle.holds.proofs.Ways.{Parted, unplugged, top-node, distinct-in, has-plug, way-apart}
+use Rattle.holds.proofs.Has.{Has, Distinct, has-top}
+use Rattle.holds.proofs.Trees.{LinkOf, opened, slot-low}
+use Rattle.holds.proofs.Ways.{Parted, unplugged, distinct-in}
 use Rattle.holds.proofs.Writes.{only-put}
-use Rattle.taken.specs.Kept.{TreeOnly}
-use Rattle.taken.proofs.Steps.{touch-put, node-rank}
-use Rattle.taken.proofs.Kept.{tree-put}
-use Rattle.taken.proofs.Places.{Inside, NoHead, stayed-words, hung-side}
+use Rattle.holds.proofs.WayWrites.{one-sided}
+use Rattle.holds.proofs.NodeWrites.{new-rank}
+use Rattle.holds.proofs.AnyDepth.{NoHead, Regrown, raised-at}
 
 -- a tree that is none missing, over the side
 pub as-node : (d : Side) (x : Tree) → 1 ≤ rank x → x ≡ node d (child d x) (entry x) (rank x) (child (other d) x)
@@ -43,43 +42,40 @@ pub node-other : (d : Side) (x : Tree) (e : Entry) (r : ℕ) (y : Tree) → node
 node-other left x e r y = refl
 node-other right x e r y = refl
 
-module _ (s : List ℕ) (cap : ℕ) (room : Room s cap) (d : Side) (a : Tree) (e : Entry) (q : ℕ) (b : Tree) (p : Way) (D : Distinct (plug (node d a e q b) p))
-    (w : TreeWords s cap (plug (node d a e q b) p)) (r : ℕ) where
-  abbrev old : Tree
-  old = node d a e q b
+-- the rank r at the node of e
+module _ (s : List ℕ) (cap : ℕ) (few : cap ≤ noSlot) (room : Room s cap) (l : List ℕ) (d : Side) (a : Tree) (e : Entry) (q : ℕ) (b : Tree) (p : Way) (r : ℕ) where
+  pub lowered : Distinct (plug (node d a e q b) p) → ((j : ℕ) → Has j (plug (node d a e q b) p) → In j l) → TreeWords s cap (plug (node d a e q b) p)
+      → Regrown s (put s cap (e .slot) RANK r) cap l (plug (node d a e r b) p)
+  lowered D within T =
+      let x = node d a e q b in
+      let w = unplugged s cap p x T .below in
+      let o = opened s cap d (parent p) a e q b w .0 in
+      raised-at s (put s cap (e .slot) RANK r) cap l p x (node d a e r b) few room D within T (node-same d e r q a a b b refl refl)
+      (only-put cap (LinkOf (slots (inorder x))) NoHead s (e .slot) RANK r (o .low) (omega arith)
+      (record { slot-in = has-top a e q b d (e .slot) refl; field-is = record { from = omega arith; to = omega arith } }))
+      (new-rank s cap (parent p) d a e q b r room (distinct-in p x D) w) refl
 
-  W : Parted s cap old p
-  W = unplugged s cap p old w
+-- the rank of a child, missing or not
+pub rank-of : (s : List ℕ) (cap : ℕ) (x : Tree) (b : ℕ) → cap ≤ noSlot → Links s cap b x → rankOf s cap (topSlot x) ≡ rank x
+unfolding rankOf
+rank-of s cap tip b few l = refl
+rank-of s cap (fork x e r y) b few l =
+    let low : e .slot < cap = l .0 .low in
+    rw (ne-eqb (e .slot) noSlot (λ z. omega arith), lt-leb cap (e .slot) low) (l .0 .rank-is)
 
-  O : Node s cap (number d) (parent p) (topSlot a) (e .slot) q (topSlot b) × Links s cap (e .slot) a × Links s cap (e .slot) b
-  O = opened s cap d (parent p) a e q b (W .below)
+-- the side of a child that the other one is not
+side-is : (s : List ℕ) (cap : ℕ) (d : Side) (i old far : ℕ) → field s cap i (LEFT + number d) ≡ old → field s cap i (RIGHT - number d) ≡ far
+    → ¬ (old ≡ far) → sideOf s cap i old ≡ number d
+unfolding sideOf
+side-is s cap left i old far e f n = rw (ne-eqb (field s cap i RIGHT) old (λ z. n (sym z ∙ f)))
+side-is s cap right i old far e f n = rw (eq-eqb (field s cap i RIGHT) old e)
 
-  A : Apart a (e .slot) b
-  A = apart a e q b d (distinct-in p old D)
-
-  abbrev t : List ℕ
-  t = put s cap (e .slot) RANK r
-
-  abbrev S : ℕ → Type 0
-  S j = Has j old
-
-  only : Only s t cap (Inside S) NoHead
-  only = only-put cap (Inside S) NoHead s (e .slot) RANK r (O .0 .low) (omega arith) (has-top a e q b d (e .slot) refl, record { from = omega arith; to = omega arith })
-
-  links : Links t cap (parent p) (node d a e r b)
-  links =
-      closed t cap d (parent p) a e r b (node-rank s cap (number d) (parent p) (topSlot a) (e .slot) q r (topSlot b) (number-small d) room (O .0))
-      (carry s t cap (e .slot) (touch-put s cap (e .slot) RANK r (O .0 .low) (omega arith)) a (e .slot) (A .near) (O .1))
-      (carry s t cap (e .slot) (touch-put s cap (e .slot) RANK r (O .0 .low) (omega arith)) b (e .slot) (A .far) (O .2))
-
-  pub lowered-words : TreeWords t cap (plug (node d a e r b) p)
-  lowered-words =
-      stayed-words s t cap S p old (node d a e r b) only W D (λ j h k. way-apart p old D j k h) links
-      (top-node d a e r b ∙ sym (top-node d a e q b))
-
-  pub lowered-only : (l : List ℕ) → ((j : ℕ) → Has j (plug old p) → In j l) → TreeOnly s t cap l
-  lowered-only l f =
-      tree-put cap l s (e .slot) RANK r (O .0 .low) (omega arith) (omega arith) (f (e .slot) (has-plug (e .slot) p old (has-top a e q b d (e .slot) refl)))
+-- the side of what hangs at a place
+pub hung-side : (s : List ℕ) (cap : ℕ) → cap ≤ noSlot → (d : Side) (e : Entry) (r : ℕ) (u : Tree) (p : Way) (x : Tree) → Distinct (plug x (step d e r u ∷ p))
+    → Parted s cap x (step d e r u ∷ p) → Has (topSlot x) x → sideOf s cap (e .slot) (topSlot x) ≡ number d
+hung-side s cap few d e r u p x D w some =
+    side-is s cap d (e .slot) (topSlot x) (topSlot u) (w .hook) (w .way .0 .far-is)
+    (one-sided cap (step d e r u ∷ p) x (topSlot x) few D some (slot-low s cap x (e .slot) (w .below) (topSlot x) some))
 
 -- where the climb goes on above a place
 abbrev pub upTo : Way → Climbed
@@ -89,14 +85,11 @@ upTo (step d e r u ∷ p) = Up (e .slot) (number d)
 pub goes-up : (s : List ℕ) (cap : ℕ) → cap ≤ noSlot → (d : Side) (a : Tree) (e : Entry) (r : ℕ) (b : Tree) (p : Way)
     → Distinct (plug (node d a e r b) p) → TreeWords s cap (plug (node d a e r b) p) → goUp s cap (e .slot) ≡ upTo p
 unfolding goUp goUpTo
-goes-up s cap few d a e r b p D w = rw (opened s cap d (parent p) a e r b (unplugged s cap p (node d a e r b) w .below) .0 .back-is) (go p D (unplugged s cap p (node d a e r b) w))
+goes-up s cap few d a e r b p D w =
+    let W = unplugged s cap p (node d a e r b) w in
+    rw (opened s cap d (parent p) a e r b (W .below) .0 .back-is) (go p D W)
   where
-    some : Has (topSlot (node d a e r b)) (node d a e r b)
-    some = rw (top-node d a e r b) (has-top a e r b d (e .slot) refl)
-
     go : (p : Way) → Distinct (plug (node d a e r b) p) → Parted s cap (node d a e r b) p → goUpTo s cap (e .slot) (parent p) ≡ upTo p
     go [] D W = rw (le-ltb noSlot cap few)
     go (step c f q u ∷ p) D W =
-        let side = hung-side s cap few c f q u p (node d a e r b) (W .way) (W .hook) D some (slot-low s cap (node d a e r b) _ (W .below) _ some) in
-        let i : sideOf s cap (f .slot) (e .slot) ≡ number c = rw (top-node d a e r b) at side in
-        rw (lt-ltb (f .slot) cap (W .way .0 .low), i)
+        rw (lt-ltb (f .slot) cap (W .way .0 .low), hung-side s cap few c f q u p (node d a e r b) D W (has-top a e r b d (e .slot) refl))

@@ -25,12 +25,11 @@ use Rattle.lower.specs.Climb.{onward, lowerOne, climbFrom}
 use Rattle.remove.specs.Take.{isChildless, settleBare, settleAt}
 use Rattle.holds.specs.Ends.{topSlot, number}
 use Rattle.holds.specs.Links.{Links, TreeWords}
-use Rattle.holds.specs.Ways.{parent}
+use Rattle.holds.specs.Ways.{parent, sideIn}
 use Rattle.holds.proofs.Has.{Distinct}
 use Rattle.holds.proofs.Ways.{unplugged}
 use Rattle.taken.proofs.Kept.{tree-none, tree-trans}
-use Rattle.taken.proofs.Places.{sideNo}
-use Rattle.taken.proofs.Lowered.{lowered-words, lowered-only, goes-up}
+use Rattle.taken.proofs.Lowered.{lowered, goes-up}
 use Rattle.taken.proofs.Climbing.{peak, peak-above, Came}
 use Rattle.taken.proofs.Climbs.{onward-is, climbs}
 
@@ -125,13 +124,13 @@ module _ (cap : ℕ) (few : cap ≤ noSlot) (l : List ℕ) (s : List ℕ) where
       let x = unplugged s cap (step d e r tip ∷ p) tip (k .words) in
       let t = put s cap (e .slot) RANK 1 in
       let D : Distinct (plug (node d tip e r tip) p) = rw (k .slots-are) (k .once) in
-      let v = lowered-words s cap (k .room) d tip e r tip p D (k .words) 1 in
+      let v = lowered s cap few (k .room) l d tip e r tip p 1 D (λ j z. rw (k .slots-are) at z) (k .words) in
       let m : slots (inorder (plug (leaf e) p)) ≡ l = ap slots (plug-same p (leaf e) (node d tip e r tip) (bare-same d e r)) ∙ k .slots-are in
       let D1 : Distinct (plug (node d tip e 1 tip) p) = rw (bare-leaf d e, m) (k .once) in
       let f = peak-above r p (k .way .2) in
       let g : peak r p < 64 = k .low in
       let y = climbs cap few l p 64 t (leaf e) (omega arith) (record {
-        words = rw (bare-leaf d e) at v;
+        words = rw (bare-leaf d e) at (v .words);
         slots-are = m;
         once = k .once;
         room = rw (length-put s cap (e .slot) RANK 1) (k .room);
@@ -143,12 +142,12 @@ module _ (cap : ℕ) (few : cap ≤ noSlot) (l : List ℕ) (s : List ℕ) where
       rw (
         settle-childless d e r p,
         at-bare (e .slot) (number d) (x .way .0 .low) (both-missing s cap (e .slot) d (x .hook) (x .way .0 .far-is)),
-        goes-up t cap few d tip e 1 tip p D1 v,
+        goes-up t cap few d tip e 1 tip p D1 (v .words),
         onward-is p 64 t cap,
       )
-      (record { yes = y .yes; words = y .words; only = tree-trans cap l s t _ (lowered-only s cap (k .room) d tip e r tip p D (k .words) 1 l (λ j z. rw (k .slots-are) at z)) (y .only) })
+      (record { yes = y .yes; words = y .words; only = tree-trans cap l s t _ (v .only) (y .only) })
 
-  pub settled : (c : Tree) (p : Way) → Lifting s cap l c p → Came s cap l (closing c p) (settleAt s cap (parent p) (sideNo p))
+  pub settled : (c : Tree) (p : Way) → Lifting s cap l c p → Came s cap l (closing c p) (settleAt s cap (parent p) (sideIn p))
   unfolding plug
   settled tip [] k = rw (at-root, settle-root) (record { yes = refl; words = k .words; only = tree-none cap l s })
   settled (fork a f q b) [] k = rw (at-root, remove-root (fork a f q b)) (record { yes = refl; words = k .words; only = tree-none cap l s })

@@ -5,8 +5,9 @@ use mathlib.Core.Path.{_≡_, refl, ap, _∙_}
 use mathlib.Core.Logic.{_⊎_, inl, inr}
 use mathlib.Core.List.{List, _∷_, _++_}
 use native.Mathlib.Omega.{arith}
+use lib.Dec.{lit<}
 use Rattle.handle.specs.Numbers.{noSlot}
-use Rattle.arena.specs.Words.{Room}
+use Rattle.arena.specs.Words.{Room, ROOT}
 use Rattle.wavl.specs.Lists.{In, Differ}
 use Rattle.wavl.specs.Entry.{Entry, slots}
 use Rattle.wavl.specs.Tree.{left, Tree, fork, inorder}
@@ -21,13 +22,17 @@ use Rattle.holds.specs.Links.{Node, Links, TreeWords}
 use Rattle.holds.specs.Ways.{parent}
 use Rattle.holds.specs.Writes.{Only}
 use Rattle.holds.proofs.Has.{Has, Distinct, Apart, apart, has-cases, has-top, has-near, has-far}
-use Rattle.holds.proofs.Trees.{carry, carry-node, slot-low}
+use Rattle.holds.proofs.Trees.{LinkOf, carry, carry-node, slot-low}
 use Rattle.holds.proofs.Ways.{Parted, unplugged, distinct-in, HasWay, has-plug, has-way, way-apart}
-use Rattle.holds.proofs.Writes.{only-trans, only-back, only-node}
-use Rattle.taken.specs.Kept.{TreeOnly}
-use Rattle.taken.proofs.Steps.{touch-back, touch-node, length-back, length-node, node-new, new-back}
-use Rattle.taken.proofs.Places.{Inside, NoHead, hung-words, hung-only, tree-only}
-use Rattle.taken.proofs.Turns.{top-has}
+use Rattle.holds.proofs.Writes.{only-trans, only-back, only-node, only-weaken}
+use Rattle.holds.proofs.Groups.{same-links}
+use Rattle.holds.proofs.WayWrites.{regrown}
+use Rattle.holds.proofs.NodeWrites.{touch-node, touch-back, length-back, length-node, node-new, new-back}
+use Rattle.holds.proofs.Turned.{top-off, top-has}
+use Rattle.holds.proofs.Reshaped.{IsRoot}
+use Rattle.holds.proofs.AnyDepth.{NoHead}
+use Rattle.taken.proofs.Kept.{TreeOnly, tree-trans, tree-relinked}
+use Rattle.taken.proofs.Lifted.{parent-on}
 
 module _ (s : List ℕ) (cap : ℕ) (few : cap ≤ noSlot) (room : Room s cap) (a : Tree) (x : Entry) (r : ℕ) (b : Tree) (p : Way)
     (D : Distinct (plug (fork a x r b) p)) (w : TreeWords s cap (plug (fork a x r b) p)) (e : Entry) (lowm : e .slot < cap)
@@ -76,7 +81,7 @@ module _ (s : List ℕ) (cap : ℕ) (few : cap ≤ noSlot) (room : Room s cap) (
   stands-is = rw (W .below .0 .near-is, W .below .0 .far-is, W .below .0 .back-is, W .below .0 .rank-is)
 
   room1 : Room s1 cap
-  room1 = rw (length-node s cap 0 m (parent p) (topSlot a) (topSlot b) r) room
+  room1 = rw (length-node s cap 0 m (parent p) (topSlot a) (topSlot b) r (omega arith) lowm) room
 
   room2 : Room s2 cap
   room2 = rw (length-back s1 cap (topSlot a) m) room1
@@ -88,7 +93,7 @@ module _ (s : List ℕ) (cap : ℕ) (few : cap ≤ noSlot) (room : Room s cap) (
   apart-from : (y : Tree) (t : List ℕ) (z : Tree) (back : ℕ) → ((j : ℕ) → Has j y → ¬ (Has j z)) → Links t cap back z → Links (withBack t cap (topSlot y) m) cap back z
   apart-from y t z back n l =
       carry t (withBack t cap (topSlot y) m) cap (topSlot y) (touch-back t cap (topSlot y) m) z back
-      (λ h. n (topSlot y) (top-has cap y few (slot-low t cap z back l (topSlot y) h)) h) l
+      (top-off t cap back y z few l n) l
 
   node-past : (y : Tree) (t : List ℕ) → ¬ (Has m y) → Node t cap 0 (parent p) (topSlot a) m r (topSlot b)
       → Node (withBack t cap (topSlot y) m) cap 0 (parent p) (topSlot a) m r (topSlot b)
@@ -98,45 +103,53 @@ module _ (s : List ℕ) (cap : ℕ) (few : cap ≤ noSlot) (room : Room s cap) (
 
   links : Links s3 cap (parent p) new
   links = (
-    node-past b s2 not-b (node-past a s1 not-a (node-new s cap 0 (parent p) (topSlot a) m r (topSlot b) (omega arith) room lowm)),
-    apart-from b s2 a m (λ j h k. A .both j k h) (new-back s1 cap a i m room1 (A .in-near) (first a i not-a (W .below .1))),
-    new-back s2 cap b i m room2 (A .in-far) (apart-from a s1 b i (A .both) (first b i not-b (W .below .2))),
+    node-past b s2 not-b (node-past a s1 not-a (node-new s cap 0 m (parent p) (topSlot a) (topSlot b) r (omega arith) lowm room)),
+    apart-from b s2 a m (λ j h k. A .both j k h) (new-back s1 cap i m a room1 (A .in-near) (first a i not-a (W .below .1))),
+    new-back s2 cap i m b room2 (A .in-far) (apart-from a s1 b i (A .both) (first b i not-b (W .below .2))),
   )
 
-  abbrev S : ℕ → Type 0
-  S j = Has j old ⊎ (j ≡ m)
+  -- nothing is written but links of the old tree's slots and of m
+  abbrev L : List ℕ
+  L = m ∷ slots (inorder old)
 
-  off : (j : ℕ) → HasWay j p → ¬ (S j)
-  off j h (inl k) = way-apart p old D j k h
-  off j h (inr k) = gone (rw k at (has-way j p old h))
-
-  only : Only s s3 cap (Inside S) NoHead
+  only : Only s s3 cap (LinkOf L) NoHead
   only =
-      only-trans cap (Inside S) NoHead s s1 s3
-      (only-node cap (Inside S) NoHead s 0 m (parent p) (topSlot a) (topSlot b) r (omega arith) lowm (λ g y z. (inr refl, record { from = y; to = z })))
-      (only-trans cap (Inside S) NoHead s1 s2 s3
-      (only-back cap (Inside S) NoHead s1 (topSlot a) m (λ l. (inl (has-near a x r b left (topSlot a) (top-has cap a few l)), record { from = omega arith; to = omega arith })))
-      (only-back cap (Inside S) NoHead s2 (topSlot b) m (λ l. (inl (has-far a x r b left (topSlot b) (top-has cap b few l)), record { from = omega arith; to = omega arith }))))
+      only-trans cap (LinkOf L) NoHead s s1 s3
+      (only-node cap (LinkOf L) NoHead s 0 m (parent p) (topSlot a) (topSlot b) r (omega arith) lowm (λ g y z. record { slot-in = inl refl; field-is = record { from = y; to = z } }))
+      (only-trans cap (LinkOf L) NoHead s1 s2 s3
+      (only-back cap (LinkOf L) NoHead s1 (topSlot a) m
+      (λ l. record { slot-in = inr (has-near a x r b left (topSlot a) (top-has cap a few l)); field-is = record { from = omega arith; to = omega arith } }))
+      (only-back cap (LinkOf L) NoHead s2 (topSlot b) m
+      (λ l. record { slot-in = inr (has-far a x r b left (topSlot b) (top-has cap b few l)); field-is = record { from = omega arith; to = omega arith } })))
 
-  within : (j : ℕ) → Has j new → S j
+  off : (j : ℕ) → HasWay j p → ¬ (In j L)
+  off j h (inl z) = gone (rw z at (has-way j p old h))
+  off j h (inr z) = way-apart p old D j z h
+
+  within : (j : ℕ) → Has j new → In j L
   within j h = go (has-cases a e r b left j h)
     where
-      go : (j ≡ m) ⊎ (Has j a ⊎ Has j b) → S j
-      go (inl k) = inr k
-      go (inr (inl k)) = inl (has-near a x r b left j k)
-      go (inr (inr k)) = inl (has-far a x r b left j k)
+      go : (j ≡ m) ⊎ (Has j a ⊎ Has j b) → In j L
+      go (inl z) = inl z
+      go (inr (inl z)) = inr (has-near a x r b left j z)
+      go (inr (inr z)) = inr (has-far a x r b left j z)
 
   pub stands-words : TreeWords stood cap (plug new p)
-  stands-words = hung-words s s3 cap few S p old new room only W D (has-top a x r b left i refl) off within links
+  stands-words =
+      regrown s s3 cap p old new few (rw (only .long) room) D w (λ j low h. same-links s s3 cap (LinkOf L) NoHead only j low (λ g f z. off j h (z .slot-in)))
+      (only .heads ROOT (lit< tt) (λ z. z)) links
+      (λ h. off (parent p) (parent-on cap few p (slot-low s3 cap new (parent p) links (parent p) h)) (within (parent p) h))
+      (has-top a x r b left i refl) (W .below .0 .low)
 
   pub stands-only : (l : List ℕ) → ((j : ℕ) → Has j (plug old p) → In j l) → In m l → TreeOnly s stood cap l
   stands-only l f h =
-      tree-only s stood cap S p l (hung-only s s3 cap few S p old new room only W D (has-top a x r b left i refl) off within links)
-      go (λ j k. f j (has-way j p old k))
+      tree-trans cap l s s3 stood
+      (only-weaken s s3 cap (LinkOf L) (LinkOf l) NoHead IsRoot (λ j g z. record { slot-in = go j (z .slot-in); field-is = z .field-is }) (λ j z. absurd z) only)
+      (tree-relinked cap l s3 (parent p) i m (λ low. f (parent p) (has-way (parent p) p old (parent-on cap few p low))))
     where
-      go : (j : ℕ) → S j → In j l
-      go j (inl k) = f j (has-plug j p old k)
-      go j (inr k) = rw k h
+      go : (j : ℕ) → In j L → In j l
+      go j (inl z) = rw z h
+      go j (inr z) = f j (has-plug j p old z)
 
   -- the slots afterwards
   abbrev front : List ℕ

@@ -18,8 +18,7 @@ use Rattle.holds.specs.Links.{Node, Links}
 use Rattle.holds.specs.Ways.{parent}
 use Rattle.holds.proofs.Trees.{opened}
 use Rattle.holds.proofs.Ways.{Parted}
-use Rattle.taken.proofs.Steps.{rank-of}
-use Rattle.taken.proofs.Lowered.{as-node, top-entry}
+use Rattle.taken.proofs.Lowered.{as-node, top-entry, rank-of}
 
 module _ (s : List ℕ) (cap : ℕ) (few : cap ≤ noSlot) (d : Side) (n0 : Tree) (e1 : Entry) (r1 : ℕ) (s0 : Tree) (q : Way)
     (w : Parted s cap n0 (step d e1 r1 s0 ∷ q)) (low0 : rank n0 < 64) where

@@ -27,11 +27,12 @@ use Rattle.holds.specs.Writes.{Only}
 use Rattle.holds.proofs.Parts.{Separate, used-few, live-low, free-low, free-not-live, few-slots, room-of}
 use Rattle.holds.proofs.Writes.{only-room}
 use Rattle.holds.proofs.Groups.{unused-stays, tree-stays, chain-stays, entries-stay, stack-stays, all-retired-stay}
-use Rattle.holds.proofs.Reshaped.{header-stays}
+use Rattle.holds.proofs.Reshaped.{IsRoot, header-stays}
+use Rattle.holds.proofs.Trees.{LinkOf}
+use Rattle.taken.proofs.Kept.{TreeOnly}
 use Rattle.holds.proofs.Chains.{end-last, chain-at}
 use Rattle.holds.proofs.Segments.{last-in-slots}
 use Rattle.holds.proofs.Linked.{joined-unlinks, chain-out}
-use Rattle.taken.specs.Kept.{TreePlace, AtRoot, TreeOnly}
 
 -- the two words that close the chain over what stood between a and b
 abbrev pub ClosedAt : ℕ → ℕ → ℕ → ℕ → Type 0
@@ -89,7 +90,7 @@ module _ (s s1 : List ℕ) (q : Queue) (d : Separate q) (w : Words s q) (l : Lis
   few = few-slots w
 
   room1 : Room s1 cap
-  room1 = only-room cap (TreePlace L) AtRoot s s1 o1 (room-of w)
+  room1 = only-room cap (LinkOf L) IsRoot s s1 o1 (room-of w)
 
   low : All (Under cap) (slots (l ++ (x ∷ m)))
   low = rw old at (live-low d)
@@ -99,8 +100,8 @@ module _ (s s1 : List ℕ) (q : Queue) (d : Separate q) (w : Words s q) (l : Lis
 
   chain1 : ChainWords s1 cap (l ++ (x ∷ m))
   chain1 =
-      rw old at (chain-stays s s1 cap (TreePlace L) AtRoot o1 (entries q) (live-low d) (λ z. omega arith) (λ z. omega arith)
-      (λ j h. ((λ z. let k = z .2 in omega arith), (λ z. let k = z .2 in omega arith))) (w .chain))
+      rw old at (chain-stays s s1 cap (LinkOf L) IsRoot o1 (entries q) (live-low d) (λ z. omega arith) (λ z. omega arith)
+      (λ j h. ((λ z. let k = z .field-is in omega arith), (λ z. let k = z .field-is in omega arith))) (w .chain))
 
   pub unlinks : unlinkSlot s1 cap (x .slot) .0 ≡ u
   unlinks =
@@ -135,7 +136,7 @@ module _ (s s1 : List ℕ) (q : Queue) (d : Separate q) (w : Words s q) (l : Lis
   o : Only s u cap (LinkAt L) NamesEnd
   o = record {
     long = o2 .long ∙ o1 .long;
-    slots = λ j g hj hg n. o2 .slots j g hj hg (λ z. n (closed-live j g hj z)) ∙ o1 .slots j g hj hg (λ z. let k = z .2 in n (z .0, z .1, omega arith));
+    slots = λ j g hj hg n. o2 .slots j g hj hg (λ z. n (closed-live j g hj z)) ∙ o1 .slots j g hj hg (λ z. let k = z .field-is in n (z .slot-in, omega arith, omega arith));
     heads = λ h hh n. o2 .heads h hh (λ z. n (end-named h z)) ∙ o1 .heads h hh (λ z. n (omega arith, omega arith));
     rest = λ k hk. o2 .rest k hk ∙ o1 .rest k hk;
   }
