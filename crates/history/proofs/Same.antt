@@ -1,0 +1,48 @@
+-- The entries of the queue stay those of the history through one call.
+-- A reader may rely on after-same, for every deed, and on others-unnamed: a handle names one entry of a sound queue.
+use mathlib.Core.Path.{_≡_, refl, sym, ap, _∙_}
+use mathlib.Core.List.{List, [], _∷_, _++_}
+use Prim.Native.Nat.{ℕ}
+use Rattle.wavl.specs.Lists.{All, In}
+use Rattle.wavl.specs.Entry.{Entry, revalued, slots}
+use Rattle.wavl.proofs.Lists.{all-in, all-of, all-left, all-right, in-slots, slots-append}
+use Rattle.rules.specs.Queue.{Handle, Queue, entries, Names}
+use Rattle.rules.specs.Sound.{Sound}
+use Rattle.rules.specs.Changes.{Swaps, Takes}
+use Rattle.rules.proofs.Lists.{once-differ, slots-put}
+use Rattle.rules.proofs.Removing.{live-once}
+use Rattle.history.specs.Deed.{Deed, adds, replaces, takesOut, nothing}
+use Rattle.history.specs.Left.{revalue, without, does, Shuffled}
+use Rattle.history.proofs.After.{After, Taken, Swapped}
+use Rattle.history.proofs.Shuffle.{revalue-append, shuffled-revalue, revalue-none, revalue-one, without-none, without-one, shuffled-without}
+
+-- beside the entry that a handle names no other has its slot
+pub others-unnamed : {q : Queue} (h : Handle) (a : List Entry) (x : Entry) (b : List Entry) → Sound q → entries q ≡ a ++ (x ∷ b) → Names h x → All (λ y. ¬ Names h y) (a ++ b)
+others-unnamed h a x b s e n =
+    let once = rw (slots-put a x b) at (rw e at (live-once s)) in
+    all-of _ (a ++ b)
+    (λ y i m. all-in _ (slots a ++ slots b) (once-differ (slots a) (x .slot) (slots b) once) (y .slot) (rw (slots-append a b) at (in-slots y (a ++ b) i)) (n .0 ∙ sym (m .0)))
+
+swaps-same : {q q′ : Queue} (h : Handle) (v : ℕ) (x : Entry) → Sound q → Names h x → Swaps q q′ x v → revalue h v (entries q) ≡ entries q′
+swaps-same {q} {q′} h v x s n c =
+    let a = c .smaller in
+    let b = c .greater in
+    let o = others-unnamed h a x b s (c .old) n in
+    let e : revalue h v (a ++ (x ∷ b)) ≡ a ++ (revalued v x ∷ b) =
+    revalue-append h v a (x ∷ b) ∙ rw (revalue-none h v a (all-left _ a b o), revalue-one h v x b n, revalue-none h v b (all-right _ a b o)) in
+    rw (c .old, c .now) e
+
+takes-same : {q q′ : Queue} (h : Handle) (x : Entry) → Sound q → Names h x → Takes q q′ x → without h (entries q) ≡ entries q′
+takes-same {q} {q′} h x s n c =
+    let a = c .smaller in
+    let b = c .greater in
+    let o = others-unnamed h a x b s (c .old) n in
+    let e : without h (a ++ (x ∷ b)) ≡ a ++ b = without-one h a x b n ∙ rw (without-none h a (all-left _ a b o), without-none h b (all-right _ a b o)) in
+    rw (c .old, c .now) e
+
+pub after-same : (d : Deed) (q q′ : Queue) (l : List Entry) → Sound q → After d q q′ → Shuffled l (entries q) → Shuffled (does d l) (entries q′)
+unfolding does
+after-same (adds h key value) q q′ l s c i = (c .smaller, c .greater, c .now, rw (c .old) at i)
+after-same (replaces h value) q q′ l s c i = rw (← (swaps-same h value (c .old) s (c .named) (c .swaps))) (shuffled-revalue h value l (entries q) i)
+after-same (takesOut h note) q q′ l s c i = rw (← (takes-same h (c .out) s (c .named) (c .takes))) (shuffled-without h l (entries q) i)
+after-same nothing q q′ l s c i = rw c i
