@@ -3,3 +3,10 @@
 pub mod After
 pub mod Shuffle
 pub mod Same
+pub mod Ages
+pub mod Live
+pub mod Counts
+pub mod Induction
+pub mod Demand3
+pub mod Nothing
+pub mod Followed

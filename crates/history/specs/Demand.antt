@@ -11,12 +11,12 @@ use Rattle.wavl.specs.Tree.{inorder}
 use Rattle.wavl.specs.Ranks.{Ranked}
 use Rattle.wavl.specs.Search.{path}
 use Rattle.rules.specs.Queue.{Handle, handleOf, Queue, entries, Holds, Names, Live}
-use Rattle.rules.specs.Answers.{notInserted, notRemoved, reads, notRead, notStepped, Found, equalAt, beside, noEntry, failedOrdRequirement, invalidPtr}
+use Rattle.rules.specs.Answers.{new, replacing, notInserted, wouldAdd, wouldReplace, wouldRefuse, removed, notRemoved, reads, notRead, stands, ends, notStepped, Found, equalAt, beside, noEntry, failedOrdRequirement, invalidPtr}
 use Rattle.rules.specs.Insert.{Where}
 use Rattle.rules.specs.Look.{searchFor}
 use Rattle.rules.specs.Sound.{Sound}
 use Rattle.rules.specs.Table.{countOf}
-use Rattle.rules.specs.Calls.{manual, removal, reading, toNext, toPrev, insertion, taken, seen, cursor, answer}
+use Rattle.rules.specs.Calls.{Call, normal, onEmpty, manual, lookNormal, lookEmpty, lookManual, removal, reading, searching, toFirst, toLast, toNext, toPrev, Answer, insertion, lookAhead, taken, seen, sought, cursor, answer}
 use Rattle.history.specs.Deed.{History}
 use Rattle.history.specs.Left.{left, given, gone, additions, removals, noted, OnceEach, Shuffled}
 
@@ -37,6 +37,39 @@ abbrev pub Misses : Found → Type 0
 Misses (equalAt h n) = ⊥
 Misses (beside h d n) = Unit {0}
 Misses (noEntry n) = Unit {0}
+
+-- an answer that is one of document 01's refusals; for the look-ahead, the one that it foretells
+abbrev pub Refusal : Answer → Type 0
+Refusal (insertion (new h)) = ⊥
+Refusal (insertion (replacing h v)) = ⊥
+Refusal (insertion (notInserted n)) = Unit {0}
+Refusal (lookAhead (wouldAdd h)) = ⊥
+Refusal (lookAhead (wouldReplace h)) = ⊥
+Refusal (lookAhead (wouldRefuse n)) = Unit {0}
+Refusal (taken (removed k v n)) = ⊥
+Refusal (taken (notRemoved n)) = Unit {0}
+Refusal (seen (reads k v)) = ⊥
+Refusal (seen (notRead n)) = Unit {0}
+Refusal (sought f) = ⊥
+Refusal (cursor (stands h)) = ⊥
+Refusal (cursor ends) = ⊥
+Refusal (cursor (notStepped n)) = Unit {0}
+
+-- "Search, reading, stepping, look-ahead .. change no store"
+abbrev pub Looks : Call → Type 0
+Looks (normal key value) = ⊥
+Looks (onEmpty key value) = ⊥
+Looks (manual h w key value) = ⊥
+Looks (lookNormal key) = Unit {0}
+Looks (lookEmpty key) = Unit {0}
+Looks (lookManual h w key) = Unit {0}
+Looks (removal h) = ⊥
+Looks (reading h) = Unit {0}
+Looks (searching key) = Unit {0}
+Looks toFirst = Unit {0}
+Looks toLast = Unit {0}
+Looks (toNext h) = Unit {0}
+Looks (toPrev h) = Unit {0}
 
 pub record Demand (capacity : ℕ) (h : History) (q : Queue) : Type 0 where
   -- "the tree keeps its rank rules"; with rules 4 to 6
