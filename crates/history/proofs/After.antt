@@ -13,7 +13,7 @@ use Rattle.rules.specs.Remove.{noteOf, remove}
 use Rattle.rules.specs.Sound.{Sound}
 use Rattle.rules.specs.Changes.{Adds, Swaps, Takes, AfterInserting, AfterRemoving}
 use Rattle.rules.specs.Handles.{FreedBy}
-use Rattle.rules.specs.Table.{RemoveAnswers}
+use Rattle.rules.specs.Table.{NoteFits, RemoveAnswers}
 use Rattle.rules.specs.Calls.{Call, normal, onEmpty, manual, lookNormal, lookEmpty, lookManual, removal, reading, searching, toFirst, toLast, toNext, toPrev, insertion, taken, answer}
 use Rattle.rules.proofs.Told.{remove-answers}
 use Rattle.rules.proofs.Insertions.{normal-does, empty-does, manual-does}
@@ -39,21 +39,24 @@ After (replaces h value) q q′ = Swapped h value q q′
 After (takesOut h note) q q′ = Taken h note q q′
 After nothing q q′ = q′ ≡ q
 
-inserting-after : (key value : ℕ) (q : Queue) (a : Inserted) (q′ : Queue) → AfterInserting key value q a q′ → After (byInsertion key value (insertion a)) q q′
+inserting-after : (key value : ℕ) (q : Queue) (a : Inserted) (q′ : Queue) → AfterInserting key value q a q′
+    → After (byInsertion key value (insertion a)) q q′
 unfolding byInsertion
 inserting-after key value q (new h) q′ f = f
 inserting-after key value q (replacing h v) q′ f = record { old = f .0; named = f .1; swaps = f .4 }
 inserting-after key value q (notInserted n) q′ f = f
 
 -- the note is that of the generation, so it says what became of the free list
-note-freed : (note : Note) (q : Queue) (x y : Entry) → x .generation ≡ y .generation → Rattle.rules.specs.Table.NoteFits note x q → (d : Dec (y .generation < q .top)) (m n : ℕ) → FreedBy (noteOf d) m n → FreedBy note m n
+note-freed : (note : Note) (q : Queue) (x y : Entry) → x .generation ≡ y .generation → NoteFits note x q
+    → (d : Dec (y .generation < q .top)) (m n : ℕ) → FreedBy (noteOf d) m n → FreedBy note m n
 unfolding noteOf
 note-freed noNote q x y e f (yes l) m n g = g
 note-freed noNote q x y e f (no l) m n g = absurd (l (rw e at f))
 note-freed generationOverflow q x y e f (yes l) m n g = absurd (f (rw e l))
 note-freed generationOverflow q x y e f (no l) m n g = g
 
-removing-after : (h : Handle) (q : Queue) (a : Removed) (q′ : Queue) → RemoveAnswers h q a → AfterRemoving h q a q′ → After (byRemoval h (taken a)) q q′
+removing-after : (h : Handle) (q : Queue) (a : Removed) (q′ : Queue) → RemoveAnswers h q a → AfterRemoving h q a q′
+    → After (byRemoval h (taken a)) q q′
 unfolding byRemoval
 removing-after h q (removed k v note) q′ t f =
     let x = f .0 in

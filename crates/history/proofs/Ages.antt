@@ -8,17 +8,18 @@ use native.Mathlib.Decide.{decLt}
 use native.Mathlib.Omega.{arith}
 use Rattle.wavl.specs.Lists.{All, In, Differ}
 use Rattle.wavl.specs.Entry.{Entry, revalued, slots}
-use Rattle.wavl.proofs.Lists.{in-middle, in-slots, pairwise-across}
+use Rattle.wavl.proofs.Lists.{all-map, in-middle, in-slots, pairwise-across}
 use Rattle.rules.specs.Queue.{Handle, handle, handleOf, entryWith, Queue, entries, Holds, Names, Live}
 use Rattle.rules.specs.Remove.{freed, freeAfter}
 use Rattle.rules.specs.Sound.{freeSlots, Sound}
 use Rattle.rules.specs.Changes.{Adds, Swaps, Takes}
+use Rattle.rules.specs.Handles.{HandleGone}
 use Rattle.rules.proofs.Lists.{in-put, in-drop}
 use Rattle.rules.proofs.Places.{slot-unique}
 use Rattle.rules.proofs.Removing.{live-once}
 use Rattle.rules.proofs.Handles.{adds-handle, takes-handle}
 use Rattle.history.specs.Deed.{Deed, adds, replaces, takesOut, nothing}
-use Rattle.history.specs.Left.{gives, ends}
+use Rattle.history.specs.Left.{gives, drops}
 use Rattle.history.proofs.After.{After}
 
 -- the slot of a given handle is now at its generation or above (n = 0), or above it (n = 1); a free one is above it in any case
@@ -60,7 +61,10 @@ freed-in (no h) s l f i = inr i
 
 module _ (n : ℕ) (small : n ≤ 1) (g : Handle) (q q′ : Queue) (a : Aged n q g) where
   adds-aged : (h : Handle) (key value : ℕ) → Adds q q′ h key value → Aged n q′ g
-  adds-aged h key value c = record { live = λ x i e. old x e (in-drop x (c .smaller) (entryWith h key value) (c .greater) (rw (c .now) at i)); free = λ f i e. a .free f (rw (c .was-free) (inr i)) e }
+  adds-aged h key value c = record {
+    live = λ x i e. old x e (in-drop x (c .smaller) (entryWith h key value) (c .greater) (rw (c .now) at i));
+    free = λ f i e. a .free f (rw (c .was-free) (inr i)) e;
+  }
     where
       old : (x : Entry) → x .slot ≡ g .slot → (x ≡ entryWith h key value) ⊎ In x (c .smaller ++ c .greater) → g .generation + n ≤ x .generation
       old x e (inl i) =
@@ -70,7 +74,10 @@ module _ (n : ℕ) (small : n ≤ 1) (g : Handle) (q q′ : Queue) (a : Aged n q
       old x e (inr i) = a .live x (rw (c .old) i) e
 
   swaps-aged : (y : Entry) (value : ℕ) → Swaps q q′ y value → Aged n q′ g
-  swaps-aged y value c = record { live = λ x i e. old x e (in-drop x (c .smaller) (revalued value y) (c .greater) (rw (c .now) at i)); free = λ f i e. a .free f (rw (c .same-free) at i) e }
+  swaps-aged y value c = record {
+    live = λ x i e. old x e (in-drop x (c .smaller) (revalued value y) (c .greater) (rw (c .now) at i));
+    free = λ f i e. a .free f (rw (c .same-free) at i) e;
+  }
     where
       old : (x : Entry) → x .slot ≡ g .slot → (x ≡ revalued value y) ⊎ In x (c .smaller ++ c .greater) → g .generation + n ≤ x .generation
       old x e (inl i) =
@@ -80,7 +87,10 @@ module _ (n : ℕ) (small : n ≤ 1) (g : Handle) (q q′ : Queue) (a : Aged n q
       old x e (inr i) = a .live x (rw (c .old) (in-put x (c .smaller) y (c .greater) i)) e
 
   takes-aged : (y : Entry) → Takes q q′ y → Aged n q′ g
-  takes-aged y c = record { live = λ x i e. a .live x (rw (c .old) (in-put x (c .smaller) y (c .greater) (rw (c .now) at i))) e; free = λ f i e. old f e (freed-in (decLt (y .generation) (q .top)) (y .slot) (q .free) f (rw (c .gives-back) at i)) }
+  takes-aged y c = record {
+    live = λ x i e. a .live x (rw (c .old) (in-put x (c .smaller) y (c .greater) (rw (c .now) at i))) e;
+    free = λ f i e. old f e (freed-in (decLt (y .generation) (q .top)) (y .slot) (q .free) f (rw (c .gives-back) at i));
+  }
     where
       old : (f : Handle) → f .slot ≡ g .slot → (f ≡ handle (y .slot) (suc (y .generation))) ⊎ In f (q .free) → g .generation < f .generation
       old f e (inl i) =
@@ -105,9 +115,12 @@ after-given nothing q q′ s s′ c = tt
 
 -- a handle just taken out is passed
 taken-passed : {q q′ : Queue} (h : Handle) (y : Entry) → Sound q → Names h y → Takes q q′ y → Aged 1 q′ h
-taken-passed {q} {q′} h y s n c = record { live = λ x i e. absurd (gone .others x .0 i .1 (same x i e)); free = λ f i e. above f e (freed-in (decLt (y .generation) (q .top)) (y .slot) (q .free) f (rw (c .gives-back) at i)) }
+taken-passed {q} {q′} h y s n c = record {
+  live = λ x i e. absurd (gone .others x .0 i .1 (same x i e));
+  free = λ f i e. above f e (freed-in (decLt (y .generation) (q .top)) (y .slot) (q .free) f (rw (c .gives-back) at i));
+}
   where
-    gone : Rattle.rules.specs.Handles.HandleGone q q′ h y
+    gone : HandleGone q q′ h y
     gone = takes-handle h s n c
 
     same : (x : Entry) → Holds q′ x → x .slot ≡ h .slot → Names h x
@@ -117,8 +130,8 @@ taken-passed {q} {q′} h y s n c = record { live = λ x i e. absurd (gone .othe
     above f e (inl i) = let z = n .1 in let k = ap (λ (w : Handle). w .generation) i in omega arith
     above f e (inr i) = absurd (live-not-free s y (gone .was-there) f i (n .0 ∙ sym e))
 
-pub after-gone : (d : Deed) (q q′ : Queue) → Sound q → After d q q′ → All (Aged 1 q′) (ends d)
-unfolding ends
+pub after-gone : (d : Deed) (q q′ : Queue) → Sound q → After d q q′ → All (Aged 1 q′) (drops d)
+unfolding drops
 after-gone (adds h key value) q q′ s c = tt
 after-gone (replaces h value) q q′ s c = tt
 after-gone (takesOut h note) q q′ s c = (taken-passed h (c .out) s (c .named) (c .takes), tt)
@@ -128,7 +141,7 @@ after-gone nothing q q′ s c = tt
 pub after-new : (d : Deed) (q q′ : Queue) → After d q q′ → (l : List Handle) → All (Aged 0 q) l → All (λ g. All (λ k. ¬ (k ≡ g)) l) (gives d)
 unfolding gives
 after-new (adds h key value) q q′ c l a =
-    (Rattle.wavl.proofs.Lists.all-map _ _ (λ k m e. free-not-aged h (rw (c .was-free) (inl refl)) (rw e at m)) l a, tt)
+    (all-map _ _ (λ k m e. free-not-aged h (rw (c .was-free) (inl refl)) (rw e at m)) l a, tt)
 after-new (replaces h value) q q′ c l a = tt
 after-new (takesOut h note) q q′ c l a = tt
 after-new nothing q q′ c l a = tt

@@ -10,7 +10,7 @@ use Rattle.rules.specs.Answers.{Note, noNote, generationOverflow}
 use Rattle.rules.specs.Handles.{FreedBy}
 use Rattle.rules.proofs.Handles.{adds-free, swaps-free}
 use Rattle.history.specs.Deed.{Deed, adds, replaces, takesOut, nothing}
-use Rattle.history.specs.Left.{gives, ends, noteCount, notes}
+use Rattle.history.specs.Left.{gives, drops, noteCount, notes}
 use Rattle.history.proofs.After.{After}
 
 note-count : (note : Note) (m n : ℕ) → FreedBy note m n → n + noteCount note ≡ suc m
@@ -18,8 +18,8 @@ unfolding noteCount
 note-count noNote m n f = omega arith
 note-count generationOverflow m n f = omega arith
 
-pub after-free : (d : Deed) (q q′ : Queue) → After d q q′ → length (q′ .free) + length (gives d) + notes d ≡ length (q .free) + length (ends d)
-unfolding gives ends notes
+pub after-free : (d : Deed) (q q′ : Queue) → After d q q′ → length (q′ .free) + length (gives d) + notes d ≡ length (q .free) + length (drops d)
+unfolding gives drops notes
 after-free (adds h key value) q q′ c = let e = adds-free c in omega arith
 after-free (replaces h value) q q′ c = let e = swaps-free (c .swaps) in omega arith
 after-free (takesOut h note) q q′ c = let e = note-count note (length (q .free)) (length (q′ .free)) (c .freed) in omega arith

@@ -14,7 +14,7 @@ use Rattle.rules.specs.Answers.{Read, reads, notRead, Found, equalAt, beside, n
 use Rattle.rules.specs.Look.{read, searchFor}
 use Rattle.rules.specs.Sound.{InRange, Sound}
 use Rattle.rules.specs.Table.{ReadAnswers, SearchAnswers, countOf}
-use Rattle.rules.specs.Calls.{Call, Answer, insertion, taken, seen, cursor, answer, run}
+use Rattle.rules.specs.Calls.{Call, reading, Answer, insertion, taken, seen, cursor, answer, run}
 use Rattle.rules.proofs.Places.{slot-unique}
 use Rattle.rules.proofs.Removing.{live-once}
 use Rattle.rules.proofs.Told.{read-answers, target-live, names-handle}
@@ -40,11 +40,11 @@ not-live-refused g q s n = record {
 }
 
 -- the entry that a handle names is the one that it reads
-reads-it : (q : Queue) → Sound q → (x : Entry) → Holds q x → (a : Read) → ReadAnswers (handleOf x) q a → a ≡ reads (x .key) (x .value)
-reads-it q s x i (reads k v) f =
-    let e = slot-unique (entries q) (live-once s) (f .0) x (f .1) i (f .2 .0) in
+reads-it : (q : Queue) → Sound q → (g : Handle) (x : Entry) → Holds q x → Names g x → (a : Read) → ReadAnswers g q a → a ≡ reads (x .key) (x .value)
+reads-it q s g x i n (reads k v) f =
+    let e = slot-unique (entries q) (live-once s) (f .0) x (f .1) i (f .2 .0 ∙ sym (n .0)) in
     rw (← (f .3), ← (f .4), e)
-reads-it q s x i (notRead n) f = absurd (f .1 (x, i, (refl, refl)))
+reads-it q s g x i n (notRead m) f = absurd (f .1 (x, i, n))
 
 -- a search misses exactly when no entry of the queue has the key
 misses-is : (key : ℕ) (q : Queue) (a : Found) → SearchAnswers key q a → Misses a ↔ (¬ Has key q)
@@ -76,9 +76,17 @@ module _ (capacity : ℕ) (h : History) (q : Queue) (k : Kept capacity h q) wher
   refused-not-live g (inl n) l = n (live-given g l)
   refused-not-live g (inr i) l = gone-not-live g i l
 
+  reading-is : (g : Handle) (x : Entry) → Holds q x → Names g x → answer (reading g) q .0 ≡ seen (reads (x .key) (x .value))
+  unfolding answer
+  reading-is g x i n = ap seen (reads-it q (k .sound) g x i n (read g q) (read-answers g q (k .sound)))
+
+  missing : (key : ℕ) → Misses (searchFor key q) ↔ (¬ HasLeft key h)
+  missing key =
+      let m = misses-is key q (searchFor key q) (search-answers key q (k .sound)) in
+      (λ a i. m .0 a (i .0, left-holds (i .0) (i .1), i .2), λ n. m .1 (λ i. n (i .0, holds-left (i .0) (i .1), i .2)))
+
   -- what the induction carries is what demand 3 says
   pub kept-demand : Demand capacity h q
-  unfolding answer
   kept-demand =
       let s = k .sound in
       let same = shuffled-length (Left.left h) (entries q) (k .same) in
@@ -90,23 +98,25 @@ module _ (capacity : ℕ) (h : History) (q : Queue) (k : Kept capacity h q) wher
         same-entries = k .same;
         entry-left = λ x. (holds-left x, left-holds x);
         number-left = same;
-        handle-reads = λ x i. ap seen (reads-it q s x (left-holds x i) (read (handleOf x) q) (read-answers (handleOf x) q s));
-        handle-names = λ g i n. let l = given-live g i n in (l .0, holds-left (l .0) (l .1), l .2);
+        handle-reads = λ x i. reading-is (handleOf x) x (left-holds x i) (refl, refl);
+        handle-names = λ g i n. let l = given-live g i n in (l .0, holds-left (l .0) (l .1), l .2, reading-is g (l .0) (l .1) (l .2));
         handle-live = λ g. (λ l. (live-given g l, λ i. gone-not-live g i l), λ i. given-live g (i .0) (i .1));
         handle-refused = λ g r. not-live-refused g q s (refused-not-live g r);
         handle-once = k .once;
         conserved = k .count;
-        search-misses = λ key. let m = misses-is key q (searchFor key q) (search-answers key q s) in (λ a i. m .0 a (i .0, left-holds (i .0) (i .1), i .2), λ n. m .1 (λ i. n (i .0, holds-left (i .0) (i .1), i .2)));
+        search-misses = missing;
         search-path = λ key. search-path key q;
         search-bound = λ key. rw same at (search-bound key q s);
       }
 
 -- Demand 3. The history is the list of calls with the list of their answers; the queue is the one at the end of the run.
-pub demand-3 : (capacity top : ℕ) → InRange capacity top → (l : List Call) → Demand capacity (paired l (run l (fresh capacity top) .0)) (run l (fresh capacity top) .1)
+pub demand-3 : (capacity top : ℕ) → InRange capacity top → (l : List Call)
+    → Demand capacity (paired l (run l (fresh capacity top) .0)) (run l (fresh capacity top) .1)
 demand-3 capacity top r l = kept-demand capacity _ _ (kept-run capacity l [] (fresh capacity top) (kept-fresh capacity top r))
 
 -- "after any sequence of calls", so after each call of a longer one: a run stops after l where the run of l alone stops
-pub after-each : (l m : List Call) (q : Queue) → (run (l ++ m) q .0 ≡ run l q .0 ++ run m (run l q .1) .0) × (run (l ++ m) q .1 ≡ run m (run l q .1) .1)
+pub after-each : (l m : List Call) (q : Queue)
+    → (run (l ++ m) q .0 ≡ run l q .0 ++ run m (run l q .1) .0) × (run (l ++ m) q .1 ≡ run m (run l q .1) .1)
 unfolding run
 after-each [] m q = (refl, refl)
 after-each (c ∷ l) m q = let i = after-each l m (answer c q .1) in (ap (λ (a : List Answer). answer c q .0 ∷ a) (i .0), i .1)

@@ -16,7 +16,7 @@ use Rattle.rules.specs.Calls.{Call, answer, run}
 use Rattle.rules.proofs.Kept.{fresh-sound}
 use Rattle.rules.proofs.History.{answer-sound}
 use Rattle.history.specs.Deed.{Event, event, History, paired, Deed, adds, replaces, takesOut, nothing, deedOf}
-use Rattle.history.specs.Left.{does, leaves, left, gives, given, ends, gone, additions, removals, notes, noted, OnceEach, Shuffled}
+use Rattle.history.specs.Left.{does, leaves, left, gives, given, drops, gone, additions, removals, notes, noted, OnceEach, Shuffled}
 use Rattle.history.proofs.After.{After, answer-after}
 use Rattle.history.proofs.Same.{after-same}
 use Rattle.history.proofs.Ages.{Aged, after-aged, after-given, after-gone, after-new}
@@ -34,10 +34,10 @@ unfolding given
 given-then [] e = append-nil (gives (deedOf e))
 given-then (f ∷ h) e = rw (given-then h e) (sym (append-assoc (gives (deedOf f)) (given h) (gives (deedOf e))))
 
-pub gone-then : (h : History) (e : Event) → gone (h ++ (e ∷ [])) ≡ gone h ++ ends (deedOf e)
+pub gone-then : (h : History) (e : Event) → gone (h ++ (e ∷ [])) ≡ gone h ++ drops (deedOf e)
 unfolding gone
-gone-then [] e = append-nil (ends (deedOf e))
-gone-then (f ∷ h) e = rw (gone-then h e) (sym (append-assoc (ends (deedOf f)) (gone h) (ends (deedOf e))))
+gone-then [] e = append-nil (drops (deedOf e))
+gone-then (f ∷ h) e = rw (gone-then h e) (sym (append-assoc (drops (deedOf f)) (gone h) (drops (deedOf e))))
 
 pub noted-then : (h : History) (e : Event) → noted (h ++ (e ∷ [])) ≡ noted h + notes (deedOf e)
 unfolding noted
@@ -71,15 +71,15 @@ one-given (takesOut h note) = tt
 one-given nothing = tt
 
 module _ (capacity : ℕ) (h : History) (q q′ : Queue) (e : Event) (k : Kept capacity h q) (c : After (deedOf e) q q′) (s : Sound q′) where
-  still : (g : Handle) → Live g q ⊎ In g (gone h) → Live g q′ ⊎ In g (gone h ++ ends (deedOf e))
+  still : (g : Handle) → Live g q ⊎ In g (gone h) → Live g q′ ⊎ In g (gone h ++ drops (deedOf e))
   still g (inl l) = go (after-live (deedOf e) q q′ (k .sound) c g l)
     where
-      go : Live g q′ ⊎ In g (ends (deedOf e)) → Live g q′ ⊎ In g (gone h ++ ends (deedOf e))
+      go : Live g q′ ⊎ In g (drops (deedOf e)) → Live g q′ ⊎ In g (gone h ++ drops (deedOf e))
       go (inl m) = inl m
-      go (inr i) = inr (in-right g (gone h) (ends (deedOf e)) i)
-  still g (inr i) = inr (in-left g (gone h) (ends (deedOf e)) i)
+      go (inr i) = inr (in-right g (gone h) (drops (deedOf e)) i)
+  still g (inr i) = inr (in-left g (gone h) (drops (deedOf e)) i)
 
-  known : (g : Handle) → In g (given h) ⊎ In g (gives (deedOf e)) → Live g q′ ⊎ In g (gone h ++ ends (deedOf e))
+  known : (g : Handle) → In g (given h) ⊎ In g (gives (deedOf e)) → Live g q′ ⊎ In g (gone h ++ drops (deedOf e))
   known g (inl i) = still g (k .live-or-gone g i)
   known g (inr i) = inl (after-names (deedOf e) q q′ (k .sound) c g i)
 
@@ -87,13 +87,15 @@ module _ (capacity : ℕ) (h : History) (q q′ : Queue) (e : Event) (k : Kept c
   pub kept-step : Kept capacity (h ++ (e ∷ [])) q′
   kept-step =
       let d = deedOf e in
+      let older : All (Aged 0 q′) (given h) = all-map _ _ (λ g a. after-aged 0 (omega arith) g q q′ a d c) (given h) (k .aged) in
+      let past : All (Aged 1 q′) (gone h) = all-map _ _ (λ g a. after-aged 1 (omega arith) g q q′ a d c) (gone h) (k .passed) in
       let f = after-free d q q′ c in
       let n = k .count in
       record {
         sound = s;
         same = rw (leaves-then [] h e) (after-same d q q′ (left h) (k .sound) c (k .same));
-        aged = rw (given-then h e) (all-both (Aged 0 q′) (given h) (gives d) (all-map _ _ (λ g a. after-aged 0 (omega arith) g q q′ a d c) (given h) (k .aged)) (after-given d q q′ (k .sound) s c));
-        passed = rw (gone-then h e) (all-both (Aged 1 q′) (gone h) (ends d) (all-map _ _ (λ g a. after-aged 1 (omega arith) g q q′ a d c) (gone h) (k .passed)) (after-gone d q q′ (k .sound) c));
+        aged = rw (given-then h e) (all-both (Aged 0 q′) (given h) (gives d) older (after-given d q q′ (k .sound) s c));
+        passed = rw (gone-then h e) (all-both (Aged 1 q′) (gone h) (drops d) past (after-gone d q q′ (k .sound) c));
         listed = rw (given-then h e) (after-listed d q q′ (given h) c (k .listed));
         live-or-gone = λ g i. rw (gone-then h e) (known g (in-cases g (given h) (gives d) (rw (given-then h e) at i)));
         once = rw (given-then h e) (once-both (given h) (gives d) (k .once) (one-given d) (after-new d q q′ c (given h) (k .aged)));

@@ -14,7 +14,7 @@ use Rattle.rules.specs.Changes.{Swaps, Takes}
 use Rattle.rules.proofs.Lists.{in-put, in-drop, all-put, all-drop, all-at}
 use Rattle.rules.proofs.Handles.{adds-handle, takes-handle}
 use Rattle.history.specs.Deed.{Deed, adds, replaces, takesOut, nothing}
-use Rattle.history.specs.Left.{decNames, gives, ends}
+use Rattle.history.specs.Left.{decNames, gives, drops}
 use Rattle.history.proofs.After.{After}
 
 -- the entry carries a handle of the list
@@ -29,7 +29,9 @@ after-listed (adds h key value) q q′ l c a =
 after-listed (replaces h value) q q′ l c a =
     let k = c .swaps in
     let m : All (Listed l) (k .smaller ++ (c .old ∷ k .greater)) = rw (k .old) at a in
-    rw (append-nil l, k .now) (all-put (Listed l) (k .smaller) (revalued value (c .old)) (k .greater) (all-at (Listed l) (k .smaller) (c .old) (k .greater) m) (all-drop (Listed l) (k .smaller) (c .old) (k .greater) m))
+    let there = all-at (Listed l) (k .smaller) (c .old) (k .greater) m in
+    let others = all-drop (Listed l) (k .smaller) (c .old) (k .greater) m in
+    rw (append-nil l, k .now) (all-put (Listed l) (k .smaller) (revalued value (c .old)) (k .greater) there others)
 after-listed (takesOut h note) q q′ l c a =
     let k = c .takes in
     rw (append-nil l, k .now) (all-drop (Listed l) (k .smaller) (c .out) (k .greater) (rw (k .old) at a))
@@ -53,8 +55,8 @@ takes-live q q′ h y s n c g l = go (decNames h (l .0))
     go (yes m) = inr (inl (same-names g h (l .0) (l .2) m))
     go (no m) = inl (l .0, takes-handle h s n c .others (l .0) .1 (l .1, m), l .2)
 
-pub after-live : (d : Deed) (q q′ : Queue) → Sound q → After d q q′ → (g : Handle) → Live g q → Live g q′ ⊎ In g (ends d)
-unfolding ends
+pub after-live : (d : Deed) (q q′ : Queue) → Sound q → After d q q′ → (g : Handle) → Live g q → Live g q′ ⊎ In g (drops d)
+unfolding drops
 after-live (adds h key value) q q′ s c g l = inl (l .0, adds-handle s c .others (l .0) .1 (inr (l .1)), l .2)
 after-live (replaces h value) q q′ s c g l = inl (swaps-live q q′ (c .old) value (c .swaps) g l)
 after-live (takesOut h note) q q′ s c g l = takes-live q q′ h (c .out) s (c .named) (c .takes) g l

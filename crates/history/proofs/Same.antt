@@ -17,11 +17,13 @@ use Rattle.history.proofs.After.{After, Taken, Swapped}
 use Rattle.history.proofs.Shuffle.{revalue-append, shuffled-revalue, revalue-none, revalue-one, without-none, without-one, shuffled-without}
 
 -- beside the entry that a handle names no other has its slot
-pub others-unnamed : {q : Queue} (h : Handle) (a : List Entry) (x : Entry) (b : List Entry) → Sound q → entries q ≡ a ++ (x ∷ b) → Names h x → All (λ y. ¬ Names h y) (a ++ b)
+pub others-unnamed : {q : Queue} (h : Handle) (a : List Entry) (x : Entry) (b : List Entry) → Sound q
+    → entries q ≡ a ++ (x ∷ b) → Names h x → All (λ y. ¬ Names h y) (a ++ b)
 others-unnamed h a x b s e n =
     let once = rw (slots-put a x b) at (rw e at (live-once s)) in
+    let differ = once-differ (slots a) (x .slot) (slots b) once in
     all-of _ (a ++ b)
-    (λ y i m. all-in _ (slots a ++ slots b) (once-differ (slots a) (x .slot) (slots b) once) (y .slot) (rw (slots-append a b) at (in-slots y (a ++ b) i)) (n .0 ∙ sym (m .0)))
+    (λ y i m. all-in _ (slots a ++ slots b) differ (y .slot) (rw (slots-append a b) at (in-slots y (a ++ b) i)) (n .0 ∙ sym (m .0)))
 
 swaps-same : {q q′ : Queue} (h : Handle) (v : ℕ) (x : Entry) → Sound q → Names h x → Swaps q q′ x v → revalue h v (entries q) ≡ entries q′
 swaps-same {q} {q′} h v x s n c =

@@ -84,7 +84,8 @@ pub record Demand (capacity : ℕ) (h : History) (q : Queue) : Type 0 where
   pub number-left : length (entries q) ≡ length (left h)
   -- "the handle of each entry added and not since removed names it": it reads the key and the latest value
   pub handle-reads : (x : Entry) → In x (left h) → answer (reading (handleOf x)) q .0 ≡ seen (reads (x .key) (x .value))
-  pub handle-names : (g : Handle) → In g (given h) → ¬ In g (gone h) → (x : Entry) × In x (left h) × Names g x
+  pub handle-names : (g : Handle) → In g (given h) → ¬ In g (gone h)
+      → (x : Entry) × In x (left h) × Names g x × (answer (reading g) q .0 ≡ seen (reads (x .key) (x .value)))
   -- and no other handle names anything
   pub handle-live : (g : Handle) → Live g q ↔ (In g (given h) × (¬ In g (gone h)))
   pub handle-refused : (g : Handle) → (¬ In g (given h)) ⊎ In g (gone h) → Refused g q

@@ -5,6 +5,9 @@ use mathlib.Core.List.{List, [], _∷_}
 use Rattle.rules.specs.Queue.{Queue}
 use Rattle.rules.specs.Sound.{Sound}
 use Rattle.rules.specs.Calls.{Call, Answer, answer}
+use Rattle.history.specs.Deed.{History}
+use Rattle.history.specs.Demand.{Demand}
+use Prim.Native.Nat.{ℕ}
 
 -- a list of calls over any kind of state, by what one call does to it
 unfoldable pub runBy : {S : Type 0} → (Call → S → Answer × S) → List Call → S → List Answer × S
@@ -15,3 +18,10 @@ runBy step (c ∷ l) s = let r = step c s in let o = runBy step l (r .1) in (r .
 pub record Follows (S : Type 0) (step : Call → S → Answer × S) (Fits : Call → Type 0) (Keeps : S → Queue → Type 0) : Type 0 where
   pub same-answer : (c : Call) → Fits c → (s : S) (q : Queue) → Sound q → Keeps s q → step c s .0 ≡ answer c q .0
   pub same-queue : (c : Call) → Fits c → (s : S) (q : Queue) → Sound q → Keeps s q → Keeps (step c s .1) (answer c q .1)
+
+-- what is then said of a store after a history: it holds a queue, demand 3 says all of that queue, and the next call answers as it does
+pub record Demanded (capacity : ℕ) (S : Type 0) (step : Call → S → Answer × S) (Fits : Call → Type 0) (Keeps : S → Queue → Type 0) (h : History) (s : S) : Type 0 where
+  pub queue : Queue
+  pub keeps : Keeps s queue
+  pub demand : Demand capacity h queue
+  pub answers : (c : Call) → Fits c → step c s .0 ≡ answer c queue .0

@@ -53,15 +53,15 @@ given [] = []
 given (e ∷ h) = gives (deedOf e) ++ given h
 
 -- the handles that removals took out, in their order
-unfoldable pub ends : Deed → List Handle
-ends (adds h key value) = []
-ends (replaces h value) = []
-ends (takesOut h note) = h ∷ []
-ends nothing = []
+unfoldable pub drops : Deed → List Handle
+drops (adds h key value) = []
+drops (replaces h value) = []
+drops (takesOut h note) = h ∷ []
+drops nothing = []
 
 unfoldable pub gone : History → List Handle
 gone [] = []
-gone (e ∷ h) = ends (deedOf e) ++ gone h
+gone (e ∷ h) = drops (deedOf e) ++ gone h
 
 -- "new insertions", "removals", "removals noted GenerationOverflow, counted over the history"
 abbrev pub additions : History → ℕ
