@@ -10,3 +10,4 @@ pub mod Induction
 pub mod Demand3
 pub mod Nothing
 pub mod Followed
+pub mod Sample

@@ -1,0 +1,23 @@
+-- The short history of specs/Sample, computed.
+-- A reader may rely on sample: what the definitions give is what was written out by hand.
+use mathlib.Core.Path.{_≡_, refl}
+use native.Mathlib.Decide.{decLe, decLt, ℕ-discrete}
+use Rattle.wavl.specs.Lists.{choose, first, last}
+use Rattle.wavl.specs.Tree.{inorder}
+use Rattle.wavl.specs.Way.{plug, before, after, neighbour, replaceAt}
+use Rattle.wavl.specs.Placing.{placeRound, byPlace, insertClimb, insertAt}
+use Rattle.wavl.specs.Taking.{takeRound, byTake, removeClimb, settle, endmost, vacateEnd, vacate, removeAt}
+use Rattle.wavl.specs.Search.{keyRound, byKey, find, findSlot}
+use Rattle.rules.specs.Queue.{freshFrom, fresh}
+use Rattle.rules.specs.Place.{ofGeneration, spotOf}
+use Rattle.rules.specs.Insert.{addWith, placeNormal, insertNormal}
+use Rattle.rules.specs.Remove.{freed, noteOf, removeSpot, remove}
+use Rattle.rules.specs.Calls.{answer, run}
+use Rattle.rules.specs.Bench.{key, put, take, ent}
+use Rattle.history.specs.Deed.{paired, byInsertion, byRemoval, deed}
+use Rattle.history.specs.Left.{revalue, without, does, leaves, gives, given, drops, gone, noteCount, notes, noted}
+use Rattle.history.specs.Sample.{script, shown, expected}
+
+pub sample : shown ≡ expected
+unfolding decLe decLt ℕ-discrete choose first last inorder plug before after neighbour replaceAt placeRound byPlace insertClimb insertAt takeRound byTake removeClimb settle endmost vacateEnd vacate removeAt keyRound byKey find findSlot freshFrom fresh ofGeneration spotOf addWith placeNormal insertNormal freed noteOf removeSpot remove answer run key put take ent paired byInsertion byRemoval deed revalue without does leaves gives given drops gone noteCount notes noted script shown expected
+sample = refl
