@@ -1,27 +1,23 @@
 -- A new entry at an empty place: taking the slot, writing the entry, the chain, the tree and its ranks, together.
 -- A reader may rely on: adds: at every empty place the model answers and leaves what crate `rules` says of adding there, full or not.
-use Prim.Native.Nat.{ℕ, suc, _+_, _-_, _≤_, _<_}
-use mathlib.Core.Path.{_≡_, refl, sym, ap, _∙_}
-use mathlib.Core.Bool.{Bool, true, false}
-use mathlib.Core.Logic.{inl, inr}
-use mathlib.Core.List.{List, [], _∷_, _++_}
-use native.Mathlib.Omega.{arith}
+use Prim.Native.Nat.{ℕ, _≤_, _<_}
+use mathlib.Core.Path.{_≡_, refl, sym}
+use mathlib.Core.List.{List, [], _∷_}
 use borrow.Author.Tests.{le-ltb}
 use lib.IntN.{ℤ}
-use lib.ListN.{length}
 use Rattle.handle.specs.Numbers.{noSlot}
 use Rattle.arena.specs.Keys.{stored}
 use Rattle.arena.specs.Entries.{entryPut}
-use Rattle.arena.specs.Slots.{handleOf, peekSlot, takeSlot}
+use Rattle.arena.specs.Slots.{handleOf, takeSlot}
 use Rattle.arena.specs.declared.slots.Taken as T
 use Rattle.tree.specs.Links.{withChild}
 use Rattle.chain.specs.Links.{linkAlone, linkBeside}
 use Rattle.chain.proofs.Laws.{alone-only}
-use Rattle.insert.specs.Place.{standAlone, placedAlone, hung, hungBelow, hungAs, placedBeside}
+use Rattle.insert.specs.Place.{standAlone, placedAlone, hung, hungBelow, placedBeside}
 use Rattle.insert.specs.declared.place.Inserted as I
 use Rattle.wavl.specs.Lists.{In}
 use Rattle.wavl.specs.Entry.{Entry, slots}
-use Rattle.wavl.specs.Tree.{Side, Tree, tip, leaf, inorder}
+use Rattle.wavl.specs.Tree.{Side, Tree, tip, leaf}
 use Rattle.wavl.specs.Way.{step, Way, plug, before, after}
 use Rattle.wavl.specs.Placing.{insertAt}
 use Rattle.wavl.proofs.Lists.{in-left, in-right, pairwise-left, slots-append}
@@ -29,21 +25,18 @@ use Rattle.wavl.proofs.Order.{insertAt-same}
 use Rattle.wavl.proofs.Rule.{ranked→ranks}
 use Rattle.rules.specs.Answers.{Inserted, new}
 use Rattle.rules.specs.Queue.{Handle, Queue, entryWith, entries}
-use Rattle.rules.specs.Insert.{addWith, addAt}
+use Rattle.rules.specs.Insert.{addWith}
 use Rattle.rules.specs.Sound.{Sound, freeSlots}
 use Rattle.wavl.specs.Lists.{Differ}
 use Rattle.holds.specs.Ends.{number}
 use Rattle.holds.specs.Holds.{Words}
-use Rattle.holds.proofs.Has.{has-top}
 use Rattle.holds.proofs.Parts.{Separate, separate-of, size-few, few-slots}
-use Rattle.holds.proofs.Trees.{opened}
 use Rattle.holds.proofs.Ways.{unplugged}
 use Rattle.holds.proofs.Reshaped.{reshaped}
 use Rattle.holds.proofs.Stack.{peek-none, take-first}
 use Rattle.holds.proofs.Linked.{alone-links}
-use Rattle.placed.specs.Meaning.{Answers}
+use Rattle.placed.proofs.Answers.{Answers}
 use Rattle.placed.proofs.Restructured.{Stands}
-use Rattle.placed.proofs.Climbing.{Climbed}
 use Rattle.placed.proofs.Rebalanced.{rebalances}
 use Rattle.placed.proofs.Hung as Hung
 use Rattle.placed.proofs.Hung.{hungQueue}

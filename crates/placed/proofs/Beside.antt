@@ -1,13 +1,12 @@
 -- The chain's neighbours of an empty place: its parent on one side, and what the parent's link on the place's side leads to.
 -- A reader may rely on: beside-links: crate `chain`'s linking beside the parent puts the new slot where crate `wavl` has the place.
-use Prim.Native.Nat.{ℕ, _+_, _-_, _≤_, _<_}
+use Prim.Native.Nat.{ℕ, _+_, _≤_, _<_}
 use mathlib.Core.Path.{_≡_, refl, sym, ap, _∙_}
-use mathlib.Core.Logic.{_⊎_, inl, inr}
+use mathlib.Core.Logic.{inl}
 use mathlib.Core.List.{List, [], _∷_, _++_, append-assoc}
-use native.Mathlib.Omega.{arith}
 use Rattle.handle.specs.Numbers.{noSlot}
-use Rattle.arena.specs.Words.{Room, field, PREV, NEXT}
-use Rattle.chain.specs.Links.{between, linkBeside}
+use Rattle.arena.specs.Words.{Room, field, PREV}
+use Rattle.chain.specs.Links.{linkBeside}
 use Rattle.chain.specs.Kept.{ChainOnly}
 use Rattle.chain.proofs.Laws.{beside-is, between-only}
 use Rattle.wavl.specs.Lists.{In}
@@ -15,9 +14,9 @@ use Rattle.wavl.specs.Entry.{Entry, slots}
 use Rattle.wavl.specs.Tree.{Side, left, right, Tree, inorder}
 use Rattle.wavl.specs.Way.{step, Way, before, after}
 use Rattle.holds.specs.Ends.{firstSlot, lastSlot, number}
-use Rattle.holds.specs.Chain.{Between, Chain, ChainWords}
+use Rattle.holds.specs.Chain.{Chain, ChainWords}
 use Rattle.holds.proofs.Trees.{number-small}
-use Rattle.holds.proofs.Chains.{endOr, end-last, chain-at}
+use Rattle.holds.proofs.Chains.{end-last, chain-at}
 use Rattle.holds.proofs.Segments.{last-append}
 use Rattle.holds.proofs.Linked.{Linked, after-links, before-links}
 use Rattle.placed.proofs.Hanging.{last-live, first-live}

@@ -1,29 +1,26 @@
 -- The climb after a new entry: on words that hold a tree the model does what crate `wavl` says, and its budget is never met.
 -- A reader may rely on: rebalances: the words of the tree with the new leaf become those of insertAt, and the answer is true.
-use Prim.Native.Nat.{ℕ, zero, suc, _+_, _-_, _≤_, _<_}
-use mathlib.Core.Path.{_≡_, refl, sym, ap, subst, _∙_}
-use mathlib.Core.Bool.{Bool, true, false}
+use Prim.Native.Nat.{ℕ, zero, suc, _+_, _≤_, _<_}
+use mathlib.Core.Path.{_≡_, refl, sym, subst, _∙_}
+use mathlib.Core.Bool.{Bool, true}
 use mathlib.Core.List.{List, [], _∷_}
 use native.Mathlib.Decide.{decLt, ℕ-discrete}
 use native.Mathlib.Omega.{arith}
 use lib.ListN.{length}
 use Rattle.handle.specs.Numbers.{noSlot}
-use Rattle.arena.specs.Words.{Room, field, put, RANK, BACK}
+use Rattle.arena.specs.Words.{Room, put, RANK}
 use Rattle.arena.proofs.Laws.{length-put}
 use Rattle.tree.specs.Links.{sideOf}
-use Rattle.rebalance.specs.Ranks.{budget, raisedUp, fixTurn, climbFrom, climbedAbove, rebalanced}
-use Rattle.rebalance.specs.declared.ranks.Fixed.{Fixed}
+use Rattle.rebalance.specs.Ranks.{budget, raisedUp, fixTurn, climbFrom}
 use Rattle.rebalance.specs.declared.ranks.Fixed.the-variants.{Done, Up}
-use Rattle.rebalance.proofs.Fixes.{raise-up, raise-done, top-reached, rank-fits, rank-raised, climbs as climb-starts}
-use Rattle.wavl.specs.Lists.{In}
-use Rattle.wavl.specs.Entry.{Entry, slots}
-use Rattle.wavl.specs.Tree.{Side, left, right, Tree, tip, fork, node, rank, leaf, inorder}
+use Rattle.rebalance.proofs.Fixes.{raise-up, raise-done}
+use Rattle.wavl.specs.Entry.{Entry}
+use Rattle.wavl.specs.Tree.{Side, Tree, node, rank}
 use Rattle.wavl.specs.Way.{step, Way, plug}
-use Rattle.wavl.specs.Ranks.{Ranks}
-use Rattle.wavl.specs.Placing.{insertClimb, insertAt}
+use Rattle.wavl.specs.Placing.{insertClimb}
 use Rattle.wavl.proofs.Order.{IsFork, plug-same, node-same}
-use Rattle.wavl.proofs.Placed.{WayRanks, unplug-ranks}
-use Rattle.wavl.proofs.Rounds.{insert-first-stop, insert-first-up, insert-root, insert-stop, insert-raise, insert-turn}
+use Rattle.wavl.proofs.Placed.{WayRanks}
+use Rattle.wavl.proofs.Rounds.{insert-stop, insert-raise, insert-turn}
 use Rattle.holds.specs.Ends.{topSlot, number}
 use Rattle.holds.specs.Ways.{parent}
 use Rattle.holds.proofs.Trees.{opened}

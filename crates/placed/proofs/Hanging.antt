@@ -1,14 +1,14 @@
 -- The writes that hang a new leaf at an empty place: the stack's top place, the new slot's own words, the chain's, the parent's link.
 -- A reader may rely on: link-only and hang-only tell what a slot that was taken and linked in leaves of all other slots.
-use Prim.Native.Nat.{ℕ, _+_, _-_, _≤_, _<_}
-use mathlib.Core.Path.{_≡_, refl, sym, ap, _∙_}
+use Prim.Native.Nat.{ℕ, _≤_, _<_}
+use mathlib.Core.Path.{_≡_, refl, _∙_}
 use mathlib.Core.Logic.{_⊎_, inl, inr}
-use mathlib.Core.List.{List, [], _∷_, _++_}
+use mathlib.Core.List.{List, [], _∷_}
 use native.Mathlib.Decide.{ℕ-discrete}
 use native.Mathlib.Omega.{arith}
 use lib.Dec.{lit<}
 use Rattle.handle.specs.Numbers.{noSlot}
-use Rattle.arena.specs.Words.{Room, fields, field, put, head, KEY, LEFT, RIGHT, RANK, BACK, PREV, NEXT, GENERATION, VALUE, STACK, FIRST, LAST, ROOT}
+use Rattle.arena.specs.Words.{Room, fields, field, put, KEY, LEFT, BACK, PREV, NEXT, GENERATION, VALUE, STACK, FIRST, LAST, ROOT}
 use Rattle.arena.proofs.Laws.{length-put, field-same, field-off}
 use Rattle.tree.specs.Links.{withChild, withNode}
 use Rattle.chain.specs.Kept.{ChainOnly}

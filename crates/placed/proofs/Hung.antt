@@ -1,6 +1,6 @@
 -- A new leaf at an empty place, in the words: every group of the store's words, by the places that were written.
 -- A reader may rely on: hung: words of a queue become those of the queue with the leaf at the place and its handle taken.
-use Prim.Native.Nat.{ℕ, suc, _+_, _-_, _≤_, _<_}
+use Prim.Native.Nat.{ℕ, suc, _≤_, _<_}
 use mathlib.Core.Path.{_≡_, refl, sym, ap, _∙_}
 use mathlib.Core.Logic.{_⊎_, inl, inr, ⊎-elim}
 use mathlib.Core.List.{List, [], _∷_, _++_}
@@ -9,20 +9,20 @@ use lib.Dec.{lit<}
 use lib.ListN.{length}
 use Rattle.handle.specs.Numbers.{noSlot}
 use Rattle.arena.proofs.Laws.{length-put}
-use Rattle.arena.specs.Words.{Room, field, put, head, KEY, LEFT, BACK, PREV, NEXT, GENERATION, VALUE, STACK, TOP, HEIGHT, ROOT}
+use Rattle.arena.specs.Words.{Room, field, put, KEY, LEFT, BACK, NEXT, GENERATION, VALUE, STACK, ROOT}
 use Rattle.arena.specs.Slots.{popped}
 use Rattle.tree.specs.Links.{withChild}
 use Rattle.chain.specs.Kept.{ChainOnly}
 use Rattle.wavl.specs.Lists.{All, In, Differ, Once}
 use Rattle.wavl.specs.Entry.{Entry, slots}
-use Rattle.wavl.specs.Tree.{left, Tree, tip, fork, leaf, inorder}
+use Rattle.wavl.specs.Tree.{left, tip, leaf, inorder}
 use Rattle.wavl.specs.Way.{step, Way, plug, before, after}
-use Rattle.wavl.proofs.Lists.{all-left, all-right, all-both, all-in, in-left, in-right, in-cases, in-slots, pairwise-left, slots-append}
+use Rattle.wavl.proofs.Lists.{in-left, in-right, in-cases, pairwise-left, slots-append}
 use Rattle.wavl.proofs.Order.{plug-around, empty-place-order}
 use Rattle.rules.specs.Queue.{Handle, Queue, entryWith, entries}
 use Rattle.rules.specs.Sound.{freeSlots, usedSlots, Under}
 use Rattle.rules.proofs.Lists.{all-put, slots-put, in-put}
-use Rattle.holds.specs.Ends.{firstSlot, lastSlot, topSlot, number}
+use Rattle.holds.specs.Ends.{firstSlot, lastSlot}
 use Rattle.holds.specs.Links.{Links, TreeWords}
 use Rattle.holds.specs.Ways.{parent, sideIn}
 use Rattle.holds.specs.Chain.{ChainWords}
@@ -31,11 +31,11 @@ use Rattle.holds.specs.Free.{FreeStack, AllRetired}
 use Rattle.holds.specs.Holds.{HeaderWords, Words, Unused}
 use Rattle.holds.specs.Writes.{Only}
 use Rattle.holds.proofs.Has.{Has, Distinct, has-cases}
-use Rattle.holds.proofs.Trees.{LinkField, SameLinks, node-keep, number-small}
+use Rattle.holds.proofs.Trees.{SameLinks, node-keep, number-small}
 use Rattle.holds.proofs.Ways.{HasWay, has-way}
 use Rattle.holds.proofs.Parts.{Separate, used-few, live-low, free-low, free-not-live, few-slots, room-of}
 use Rattle.holds.proofs.Writes.{only-trans, only-child}
-use Rattle.holds.proofs.Groups.{same-links, unused-stays, chain-stays, entries-stay, stack-stays, all-retired-stay}
+use Rattle.holds.proofs.Groups.{unused-stays, chain-stays, entries-stay, stack-stays, all-retired-stay}
 use Rattle.holds.proofs.Reshaped.{IsRoot, header-stays}
 use Rattle.holds.proofs.AnyDepth.{NoHead}
 use Rattle.holds.proofs.NodeWrites.{node-new}

@@ -1,3 +1,4 @@
+pub mod Answers
 pub mod Restructured
 pub mod Turns
 pub mod Climbing
@@ -11,4 +12,8 @@ pub mod Plans
 pub mod Preparing
 pub mod Neighbours
 pub mod Manual
+pub mod Keeping
+pub mod KeptRanks
+pub mod KeptPlaces
 pub mod Theorems
+pub mod OneAnswer

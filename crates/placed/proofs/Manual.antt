@@ -3,7 +3,7 @@
 use Prim.Native.Nat.{ℕ, _+_, _-_, _≤_, _<_}
 use mathlib.Core.Path.{_≡_, refl, sym, ap, _∙_}
 use mathlib.Core.Bool.{true, false}
-use mathlib.Core.List.{List, [], _∷_}
+use mathlib.Core.List.{List, _∷_}
 use mathlib.Core.Option.{Option, some, none}
 use native.Mathlib.Decide.{ℕ-discrete}
 use native.Mathlib.Omega.{arith}
@@ -24,7 +24,7 @@ use Rattle.wavl.proofs.Manual.{beside-whole}
 use Rattle.wavl.proofs.Rounds.{choose-yes, choose-no}
 use Rattle.rules.specs.Queue.{Queue, entries}
 use Rattle.rules.specs.Place.{Spot, nowhere, spot, spotOf}
-use Rattle.rules.specs.Insert.{Where, keyed, Beside, decBeside, Between, decBetween, addBeside, placeManual, insertManual}
+use Rattle.rules.specs.Insert.{keyed, Beside, decBeside, Between, decBetween, addBeside, placeManual, insertManual}
 use Rattle.rules.proofs.Places.{SpotIs, spot-is}
 use Rattle.rules.proofs.Removing.{live-once}
 use Rattle.holds.specs.Ends.{topSlot, number}
@@ -39,7 +39,7 @@ use Rattle.holds.proofs.Trees.{slot-low}
 use Rattle.holds.proofs.Ways.{unplugged}
 use Rattle.holds.proofs.Chains.{slotOf}
 use Rattle.placed.specs.Meaning.{sideMeans}
-use Rattle.placed.proofs.Plans.{Plan, add, swap, fail, planned, Prepares}
+use Rattle.placed.proofs.Plans.{add, swap, fail, planned, Prepares}
 use Rattle.placed.proofs.Neighbours.{endSlot, end-has, gap-tip, gap-planned, neighbour-end, neighbour-link, neighbour-in}
 
 -- the test of two keys, over the side

@@ -1,10 +1,10 @@
 -- The neighbour of a node in the chain, over the side: the word that leads to it, and the empty place beside the node.
 -- A reader may rely on: neighbour-link; beside-planned: below the node where it has no child there, else below its neighbour.
-use Prim.Native.Nat.{ℕ, _+_, _-_, _≤_, _<_}
+use Prim.Native.Nat.{ℕ, _+_}
 use mathlib.Core.Path.{_≡_, refl, sym, ap, _∙_}
 use mathlib.Core.Logic.{inl, inr}
 use mathlib.Core.List.{List, [], _∷_, _++_, append-assoc}
-use mathlib.Core.Option.{Option, some, none}
+use mathlib.Core.Option.{some}
 use Rattle.handle.specs.Numbers.{noSlot}
 use Rattle.arena.specs.Words.{field, PREV}
 use Rattle.insert.specs.declared.kinds.Prepared.the-variants.{Beside}
@@ -12,7 +12,7 @@ use Rattle.wavl.specs.Lists.{In}
 use Rattle.wavl.specs.Entry.{Entry, slots}
 use Rattle.wavl.specs.Tree.{Side, left, right, other, Tree, tip, fork, pick, inorder}
 use Rattle.wavl.specs.Way.{step, Way, place, plug, before, after, neighbour}
-use Rattle.wavl.specs.Search.{gap, besideOf}
+use Rattle.wavl.specs.Search.{gap}
 use Rattle.wavl.proofs.Lists.{in-left, in-right, in-middle, slots-append, first-split, last-split}
 use Rattle.wavl.proofs.Order.{IsFork}
 use Rattle.wavl.proofs.Rising.{node-around}
@@ -21,7 +21,7 @@ use Rattle.holds.specs.Chain.{ChainWords}
 use Rattle.holds.proofs.Has.{Has}
 use Rattle.holds.proofs.Chains.{slotOf, first-slot, last-slot, end-last, chain-at}
 use Rattle.holds.proofs.Segments.{last-append, last-in-slots}
-use Rattle.placed.proofs.Plans.{Plan, add, planned}
+use Rattle.placed.proofs.Plans.{add, planned}
 
 -- a tree's end on the side d
 abbrev pub endSlot : Side → Tree → ℕ

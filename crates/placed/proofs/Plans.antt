@@ -1,7 +1,7 @@
 -- What an insertion is about to do, in the queue and in the words at once: add at an empty place, swap a value, or fail.
 -- A reader may rely on: carries-out: an insertion that prepares a plan does what crate `rules` says of it; foretells: so does the look-ahead.
-use Prim.Native.Nat.{ℕ, suc, _≤_, _<_}
-use mathlib.Core.Path.{_≡_, refl, sym, ap, _∙_}
+use Prim.Native.Nat.{ℕ, suc, _≤_}
+use mathlib.Core.Path.{_≡_, refl, ap}
 use mathlib.Core.List.{List, [], _∷_}
 use native.Mathlib.Omega.{arith}
 use lib.IntN.{ℤ}
@@ -25,7 +25,9 @@ use Rattle.holds.specs.Holds.{Holds}
 use Rattle.holds.proofs.Parts.{sound-of, words-of, separate-of, used-few, free-low}
 use Rattle.holds.proofs.Live.{live-entry, spot-in}
 use Rattle.holds.proofs.Stack.{peek-none, peek-first}
-use Rattle.placed.specs.Meaning.{aheadMeans, Answers, Inserts}
+use Rattle.placed.specs.Keeps.{Keeps}
+use Rattle.placed.specs.Meaning.{aheadMeans, Inserts}
+use Rattle.placed.proofs.Answers.{Answers}
 use Rattle.placed.proofs.Added.{adds}
 use Rattle.placed.proofs.Swapped.{inserts, refuses, swaps}
 
@@ -72,9 +74,9 @@ module _ {s : List ℕ} {q : Queue} (k : Holds s q) where
   carry key value fail f d = refuses k R.the-variants.FailedOrdRequirement
 
   pub carries-out : (key : ℤ) (value : ℕ) (pr : Prepared) (m : ℕ → Inserted × Queue) → Prepares q (stored key) pr m → Sound (m value .1)
-      → Inserts (applied s cap pr key value) (m value)
-  carries-out key value pr m y d =
-      inserts d (rw (y .words-so, y .queue-so value) (carry key value (y .plan) (y .fits) (rw (y .queue-so value) at d)))
+      → Keeps s (applied s cap pr key value .0) cap → Inserts s cap (applied s cap pr key value) (m value)
+  carries-out key value pr m y d c =
+      inserts d (rw (y .words-so, y .queue-so value) (carry key value (y .plan) (y .fits) (rw (y .queue-so value) at d))) c
 
   -- the handle that a new entry would get
   next-new : (key value : ℕ) (p : Way) (f : List Handle) → q .free ≡ f → aheadMeans (nextNew s cap) ≡ ahead (addWith f key value p q .0)

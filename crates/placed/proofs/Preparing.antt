@@ -1,7 +1,7 @@
 -- Normal and Empty: what they prepare in the words is what crate `rules` does to the queue.
 -- A reader may rely on: normal-prepares by the search, empty-prepares by the header's ROOT.
-use Prim.Native.Nat.{ℕ, _≤_, _<_}
-use mathlib.Core.Path.{_≡_, refl, sym, ap, _∙_}
+use Prim.Native.Nat.{ℕ, _<_}
+use mathlib.Core.Path.{_≡_, refl, sym}
 use mathlib.Core.List.{List, [], _∷_}
 use native.Mathlib.Omega.{arith}
 use borrow.Author.Tests.{eq-eqb, ne-eqb}
@@ -9,7 +9,7 @@ use Rattle.handle.specs.Numbers.{noSlot}
 use Rattle.arena.specs.Words.{head, ROOT}
 use Rattle.insert.specs.Kinds.{asFound, preparedNormal, preparedEmpty}
 use Rattle.wavl.specs.Tree.{Tree, tip, fork}
-use Rattle.wavl.specs.Way.{step, Way, Place, place, plug}
+use Rattle.wavl.specs.Way.{step, Place, place, plug}
 use Rattle.wavl.specs.Search.{search, answer}
 use Rattle.wavl.proofs.Found.{Searched, search-right}
 use Rattle.rules.specs.Queue.{Queue}
@@ -18,7 +18,7 @@ use Rattle.holds.specs.Meanings.{inSlots}
 use Rattle.holds.specs.Holds.{Holds}
 use Rattle.holds.proofs.Parts.{words-of, few-slots}
 use Rattle.holds.proofs.Seeks.{seek-is}
-use Rattle.placed.proofs.Plans.{Plan, add, swap, fail, Prepares}
+use Rattle.placed.proofs.Plans.{add, swap, fail, Prepares}
 
 module _ {s : List ℕ} {q : Queue} (k : Holds s q) (key : ℕ) where
   abbrev cap : ℕ

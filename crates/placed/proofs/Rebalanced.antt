@@ -1,19 +1,18 @@
 -- The ranks after a new entry, from the tree with the new leaf: the model gives crate `wavl`'s insertAt, with no budget met.
 -- A reader may rely on: rebalances. The tree before the new leaf is ranked, and no larger than a capacity may be.
-use Prim.Native.Nat.{ℕ, zero, suc, _+_, _-_, _≤_, _<_}
-use mathlib.Core.Path.{_≡_, refl, sym, ap, _∙_}
-use mathlib.Core.Bool.{Bool, true}
+use Prim.Native.Nat.{ℕ, _≤_}
+use mathlib.Core.Path.{_≡_, refl, sym}
 use mathlib.Core.List.{List, [], _∷_}
 use native.Mathlib.Decide.{ℕ-discrete}
 use native.Mathlib.Omega.{arith}
 use lib.ListN.{length}
 use Rattle.handle.specs.Numbers.{noSlot}
-use Rattle.arena.specs.Words.{Room, field, put, RANK, BACK}
+use Rattle.arena.specs.Words.{Room, field, put, RANK}
 use Rattle.arena.proofs.Laws.{length-put}
-use Rattle.rebalance.specs.Ranks.{budget, climbFrom, climbedAbove, rebalanced}
+use Rattle.rebalance.specs.Ranks.{budget, climbedAbove, rebalanced}
 use Rattle.rebalance.proofs.Fixes.{top-reached, rank-fits, rank-raised, climbs as climb-starts}
 use Rattle.wavl.specs.Entry.{Entry}
-use Rattle.wavl.specs.Tree.{Side, left, right, Tree, tip, fork, node, rank, leaf, size}
+use Rattle.wavl.specs.Tree.{Side, Tree, tip, node, leaf, size}
 use Rattle.wavl.specs.Way.{step, Way, plug}
 use Rattle.wavl.specs.Ranks.{Ranks}
 use Rattle.wavl.specs.Placing.{insertClimb, insertAt}
@@ -21,13 +20,13 @@ use Rattle.wavl.proofs.Order.{plug-same, node-same}
 use Rattle.wavl.proofs.Placed.{WayRanks, unplug-ranks}
 use Rattle.wavl.proofs.Size.{rank-le-31}
 use Rattle.wavl.proofs.Rounds.{insert-first-stop, insert-first-up, insert-root}
-use Rattle.holds.specs.Ends.{topSlot, number}
+use Rattle.holds.specs.Ends.{number}
 use Rattle.holds.specs.Ways.{parent}
 use Rattle.holds.proofs.Trees.{LinkOf, opened}
 use Rattle.holds.proofs.Ways.{top-node, unplugged, distinct-in}
 use Rattle.holds.proofs.Writes.{only-none}
 use Rattle.holds.proofs.Reshaped.{IsRoot}
-use Rattle.holds.proofs.AnyDepth.{Regrown, regrown-trans}
+use Rattle.holds.proofs.AnyDepth.{regrown-trans}
 use Rattle.placed.proofs.Restructured.{Stands, stands-on, ranked-at}
 use Rattle.placed.proofs.Turns.{side-at}
 use Rattle.placed.proofs.Climbing.{Climbed, way-rises, climbs}

@@ -1,13 +1,12 @@
 -- The two restructures of document 01 in the words, at any depth, over the side.
 -- A reader may rely on: restructured: words that hold the tree hold the restructured one afterwards, and only links of the tree are written.
-use Prim.Native.Nat.{ℕ, _+_, _-_, _≤_, _<_}
-use mathlib.Core.Path.{_≡_, refl, sym, ap, _∙_}
+use Prim.Native.Nat.{ℕ, _≤_}
+use mathlib.Core.Path.{_≡_, refl, sym, _∙_}
 use mathlib.Core.List.{List}
 use native.Mathlib.Omega.{arith}
 use Rattle.handle.specs.Numbers.{noSlot}
 use lib.Dec.{lit<}
 use Rattle.arena.specs.Words.{Room, field, put, LEFT, RANK, BACK}
-use Rattle.tree.specs.Links.{relinked}
 use Rattle.rebalance.specs.Turns.{liftedOne, turnedSame, spreadWith, spreadBelow, turnedAcross}
 use Rattle.wavl.specs.Entry.{Entry, slots}
 use Rattle.wavl.specs.Tree.{Side, left, right, Tree, tip, fork, node, rank, inorder}
@@ -16,11 +15,11 @@ use Rattle.wavl.specs.Placing.{oneSide, restructure}
 use Rattle.wavl.specs.Lists.{In}
 use Rattle.wavl.proofs.Order.{IsFork, node-same, restructure-same}
 use Rattle.holds.specs.Ends.{topSlot, number}
-use Rattle.holds.specs.Links.{Node, Links, TreeWords}
+use Rattle.holds.specs.Links.{Links, TreeWords}
 use Rattle.holds.specs.Ways.{parent}
 use Rattle.holds.proofs.Has.{Has, Distinct, has-top}
-use Rattle.holds.proofs.Trees.{LinkField, LinkOf, opened}
-use Rattle.holds.proofs.Ways.{Parted, top-node, unplugged, distinct-in}
+use Rattle.holds.proofs.Trees.{LinkOf, opened}
+use Rattle.holds.proofs.Ways.{top-node, unplugged, distinct-in}
 use Rattle.holds.proofs.Writes.{only-put}
 use Rattle.holds.proofs.AnyDepth.{Regrown, NoHead, raised-at, turned-at}
 use Rattle.holds.proofs.NodeWrites.{new-rank}

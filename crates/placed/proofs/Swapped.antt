@@ -1,11 +1,10 @@
 -- A replacement, and a refusal that changes nothing, on a store that holds a queue.
 -- A reader may rely on: swaps: the old value and the kept handle are answered, and the store holds the queue with the new value.
-use Prim.Native.Nat.{ℕ, _<_}
-use mathlib.Core.Path.{_≡_, refl, sym, ap, _∙_}
-use mathlib.Core.List.{List, _++_}
+use Prim.Native.Nat.{ℕ}
+use mathlib.Core.Path.{_≡_, refl}
+use mathlib.Core.List.{List}
 use Rattle.handle.specs.Numbers.{refusalNumber}
 use Rattle.handle.specs.declared.Refusal.{Refusal}
-use Rattle.arena.specs.Words.{field, GENERATION, VALUE}
 use Rattle.insert.specs.Place.{replaced}
 use Rattle.insert.specs.declared.place.Inserted as I
 use Rattle.wavl.specs.Entry.{Entry}
@@ -15,15 +14,17 @@ use Rattle.rules.specs.Queue.{Queue}
 use Rattle.rules.specs.Answers.{Inserted, notInserted}
 use Rattle.rules.specs.Insert.{swapAt}
 use Rattle.rules.specs.Sound.{Sound}
-use Rattle.holds.specs.Holds.{Holds, Words}
+use Rattle.holds.specs.Holds.{Holds}
 use Rattle.holds.proofs.Parts.{sound-of, words-of, holds-of, separate-of}
 use Rattle.holds.proofs.Live.{live-entry, spot-in}
 use Rattle.holds.proofs.Valued.{new-value}
-use Rattle.placed.specs.Meaning.{Answers, Inserts}
+use Rattle.placed.specs.Keeps.{Keeps}
+use Rattle.placed.specs.Meaning.{Inserts}
+use Rattle.placed.proofs.Answers.{Answers}
 
 -- a sound queue's words make a store that holds it
-pub inserts : {r : List ℕ × I.Inserted} {m : Inserted × Queue} → Sound (m .1) → Answers r m → Inserts r m
-inserts d a = record { answer = a .answer; holds = holds-of d (a .words) }
+pub inserts : {s : List ℕ} {cap : ℕ} {r : List ℕ × I.Inserted} {m : Inserted × Queue} → Sound (m .1) → Answers r m → Keeps s (r .0) cap → Inserts s cap r m
+inserts d a c = record { answer = a .answer; holds = holds-of d (a .words); keeps = c }
 
 module _ {s : List ℕ} {q : Queue} (k : Holds s q) where
   abbrev cap : ℕ

@@ -21,24 +21,29 @@ use Rattle.placed.specs.Meaning.{aheadMeans, sideMeans, Inserts}
 use Rattle.placed.proofs.Plans.{carries-out, foretells}
 use Rattle.placed.proofs.Preparing.{normal-prepares, empty-prepares}
 use Rattle.placed.proofs.Manual.{manual-prepares}
+use Rattle.placed.proofs.KeptPlaces.{normal-keeps, empty-keeps, manual-keeps}
 
 module _ {s : List ℕ} {q : Queue} (k : Holds s q) (key : ℤ) where
   abbrev cap : ℕ
   cap = q .capacity
 
   -- "Normal: search from the root .. Equal: the value is replaced .. Otherwise a new entry is placed there."
-  pub normal-means : (value : ℕ) → Inserts (insertNormal s cap key value) (Rules.insertNormal (stored key) value q)
+  pub normal-means : (value : ℕ) → Inserts s cap (insertNormal s cap key value) (Rules.insertNormal (stored key) value q)
   unfolding insertNormal
-  normal-means value = carries-out k key value (preparedNormal s cap (stored key)) _ (normal-prepares k (stored key)) (normal-sound (stored key) value q (sound-of k))
+  normal-means value =
+      carries-out k key value (preparedNormal s cap (stored key)) _ (normal-prepares k (stored key)) (normal-sound (stored key) value q (sound-of k))
+      (normal-keeps s cap key value)
 
   pub normal-ahead : aheadMeans (aheadNormal s cap key) ≡ Rules.aheadNormal (stored key) q
   unfolding aheadNormal Rules.aheadNormal
   normal-ahead = foretells k (stored key) (preparedNormal s cap (stored key)) _ (normal-prepares k (stored key))
 
   -- "Empty: only into an empty queue."
-  pub empty-means : (value : ℕ) → Inserts (insertEmpty s cap key value) (Rules.insertEmpty (stored key) value q)
+  pub empty-means : (value : ℕ) → Inserts s cap (insertEmpty s cap key value) (Rules.insertEmpty (stored key) value q)
   unfolding insertEmpty
-  empty-means value = carries-out k key value (preparedEmpty s) _ (empty-prepares k (stored key)) (empty-sound (stored key) value q (sound-of k))
+  empty-means value =
+      carries-out k key value (preparedEmpty s) _ (empty-prepares k (stored key)) (empty-sound (stored key) value q (sound-of k))
+      (empty-keeps s cap key value)
 
   pub empty-ahead : aheadMeans (aheadEmpty s cap) ≡ Rules.aheadEmpty (stored key) q
   unfolding aheadEmpty Rules.aheadEmpty
@@ -46,10 +51,11 @@ module _ {s : List ℕ} {q : Queue} (k : Holds s q) (key : ℤ) where
 
   -- "Manual: a live handle .. and a side."
   module _ (h : Handle) (side : Side) where
-    pub manual-means : (value : ℕ) → Inserts (insertManual s cap h side key value) (Rules.insertManual (plain h) (sideMeans side) (stored key) value q)
+    pub manual-means : (value : ℕ) → Inserts s cap (insertManual s cap h side key value) (Rules.insertManual (plain h) (sideMeans side) (stored key) value q)
     unfolding insertManual
     manual-means value =
         carries-out k key value (preparedManual s cap h side (stored key)) _ (manual-prepares k (stored key) h side) (manual-sound (stored key) value q (sound-of k) (plain h) (sideMeans side))
+        (manual-keeps s cap key value h side)
 
     pub manual-ahead : aheadMeans (aheadManual s cap h side key) ≡ Rules.aheadManual (plain h) (sideMeans side) (stored key) q
     unfolding aheadManual Rules.aheadManual

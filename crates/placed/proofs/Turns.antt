@@ -1,12 +1,11 @@
 -- One turn of the climb on words that hold a tree: what it reads, and its answer by the facts that decide crate `wavl`'s round.
 -- A reader may rely on: turn-stops, turn-raises and turn-turns, in the order of document 01's tests.
-use Prim.Native.Nat.{ℕ, zero, suc, _+_, _-_, _≤_, _<_}
-use mathlib.Core.Path.{_≡_, refl, sym, ap, _∙_}
-use mathlib.Core.List.{List, [], _∷_}
+use Prim.Native.Nat.{ℕ, _+_, _≤_, _<_}
+use mathlib.Core.Path.{_≡_, refl, sym}
+use mathlib.Core.List.{List}
 use native.Mathlib.Omega.{arith}
-use borrow.Author.Tests.{lt-ltb, le-ltb, le-leb, lt-leb, eq-eqb, ne-eqb}
+use borrow.Author.Tests.{lt-ltb, le-ltb, lt-leb, eq-eqb, ne-eqb}
 use Rattle.handle.specs.Numbers.{noSlot}
-use Rattle.arena.specs.Words.{field, put, RIGHT, RANK, BACK}
 use Rattle.tree.specs.Links.{rankOf, sideOf}
 use Rattle.rebalance.specs.Ranks.{budget, raisedUp, fixWith, fixTurn}
 use Rattle.rebalance.specs.declared.ranks.Fixed.{Fixed}
@@ -21,7 +20,7 @@ use Rattle.holds.specs.Links.{Links, TreeWords}
 use Rattle.holds.specs.Ways.{parent}
 use Rattle.holds.proofs.Has.{Has, Distinct, apart, has-top, not-top}
 use Rattle.holds.proofs.Trees.{opened, slot-low}
-use Rattle.holds.proofs.Ways.{top-node, unplugged}
+use Rattle.holds.proofs.Ways.{unplugged}
 use Rattle.placed.proofs.Restructured.{turnedBy}
 
 -- "A missing child counts as rank 0."

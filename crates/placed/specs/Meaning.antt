@@ -1,5 +1,5 @@
 -- What the answers of insertion and look-ahead mean: crate `insert`'s kinds read as crate `rules`' answers, refusals by document 01's number.
--- A reader may rely on: Inserts and Foresees are the whole promise of a call on a store that holds a queue.
+-- A reader may rely on: Inserts is the whole promise of an insertion; proofs/OneAnswer shows that nothing else meets it.
 use Prim.Native.Nat.{ℕ}
 use mathlib.Core.Path.{_≡_}
 use mathlib.Core.List.{List}
@@ -11,7 +11,8 @@ use Rattle.rules.specs.Queue.{Queue}
 use Rattle.rules.specs.Answers.{Inserted, new, replacing, notInserted, Ahead, wouldAdd, wouldReplace, wouldRefuse}
 use Rattle.rules.specs.Insert.{Where, less, equal, greater}
 use Rattle.holds.specs.Handles.{plain}
-use Rattle.holds.specs.Holds.{Holds, Words}
+use Rattle.holds.specs.Holds.{Holds}
+use Rattle.placed.specs.Keeps.{Keeps}
 
 -- "Any insertion answers New or Replacing with the handle, and the old value if replacing."
 abbrev pub insertedMeans : I.Inserted → Inserted
@@ -31,12 +32,9 @@ sideMeans S.the-variants.Less = less
 sideMeans S.the-variants.Equal = equal
 sideMeans S.the-variants.Greater = greater
 
--- the answer is the definition's, and the store afterwards has the words of the definition's queue
-pub record Answers (r : List ℕ × I.Inserted) (m : Inserted × Queue) : Type 0 where
-  pub answer : insertedMeans (r .1) ≡ m .0
-  pub words : Words (r .0) (m .1)
-
--- the same, where the definition's queue is sound
-pub record Inserts (r : List ℕ × I.Inserted) (m : Inserted × Queue) : Type 0 where
+-- the whole promise of an insertion with a store s that holds a queue: the definition's answer, the definition's queue, and of every
+-- number past those that the capacity needs, and of the length, that it stays
+pub record Inserts (s : List ℕ) (cap : ℕ) (r : List ℕ × I.Inserted) (m : Inserted × Queue) : Type 0 where
   pub answer : insertedMeans (r .1) ≡ m .0
   pub holds : Holds (r .0) (m .1)
+  pub keeps : Keeps s (r .0) cap
