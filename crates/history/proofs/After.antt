@@ -1,10 +1,8 @@
 -- What a call has done to the queue, told by the deed alone: rules' theorems about each call, brought to one form.
 -- A reader may rely on answer-after, for every call and every sound queue; the induction over a list of calls stands on it.
-use mathlib.Core.Path.{_≡_, refl, sym, ap, _∙_, subst}
-use mathlib.Core.Logic.{_⊎_, inl, inr}
+use mathlib.Core.Path.{_≡_, refl, sym, _∙_}
 use Prim.Native.Nat.{ℕ, _<_}
 use native.Mathlib.Decide.{decLt}
-use native.Mathlib.Omega.{arith}
 use lib.ListN.{length}
 use Rattle.wavl.specs.Entry.{Entry}
 use Rattle.rules.specs.Queue.{Handle, Queue, Names}

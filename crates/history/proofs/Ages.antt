@@ -10,7 +10,7 @@ use Rattle.wavl.specs.Lists.{All, In, Differ}
 use Rattle.wavl.specs.Entry.{Entry, revalued, slots}
 use Rattle.wavl.proofs.Lists.{all-map, in-middle, in-slots, pairwise-across}
 use Rattle.rules.specs.Queue.{Handle, handle, handleOf, entryWith, Queue, entries, Holds, Names, Live}
-use Rattle.rules.specs.Remove.{freed, freeAfter}
+use Rattle.rules.specs.Remove.{freed}
 use Rattle.rules.specs.Sound.{freeSlots, Sound}
 use Rattle.rules.specs.Changes.{Adds, Swaps, Takes}
 use Rattle.rules.specs.Handles.{HandleGone}

@@ -1,7 +1,6 @@
 -- Document 01's "Conserved", through one call: what an addition takes from the free list and a removal gives back.
 -- A reader may rely on after-free for every deed.
-use mathlib.Core.Path.{_≡_, refl, ap}
-use mathlib.Core.List.{[], _∷_}
+use mathlib.Core.Path.{_≡_, ap}
 use Prim.Native.Nat.{ℕ, suc, _+_}
 use native.Mathlib.Omega.{arith}
 use lib.ListN.{length}

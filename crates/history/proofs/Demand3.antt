@@ -1,26 +1,26 @@
 -- Demand 3, for every capacity and top generation in range and every list of calls from the fresh queue, refused ones included.
--- A reader may rely on demand-3; after-each says that the queue after each call of a run is the end of a shorter run.
-use mathlib.Core.Path.{_≡_, refl, sym, ap, _∙_, subst}
+-- A reader may rely on demand-3; after-each says that the queue after each call of a run is the end of a shorter run, and all-told
+-- that a history holds each call with its answer.
+use mathlib.Core.Path.{_≡_, refl, sym, ap, _∙_}
 use mathlib.Core.Logic.{_⊎_, inl, inr, _↔_}
 use mathlib.Core.List.{List, [], _∷_, _++_}
-use Prim.Native.Nat.{ℕ, _+_, _*_, _^_, _≤_}
-use lib.ListN.{length}
-use Rattle.wavl.specs.Lists.{All, In}
+use Prim.Native.Nat.{ℕ}
+use Rattle.wavl.specs.Lists.{In}
 use Rattle.wavl.specs.Entry.{Entry}
 use Rattle.wavl.specs.Tree.{left, right}
 use Rattle.wavl.proofs.Lists.{all-in}
 use Rattle.rules.specs.Queue.{Handle, handleOf, Queue, fresh, entries, Holds, Has, Names, Live}
-use Rattle.rules.specs.Answers.{Read, reads, notRead, Found, equalAt, beside, noEntry, invalidPtr}
+use Rattle.rules.specs.Answers.{Read, reads, notRead, Found, equalAt, beside, noEntry}
 use Rattle.rules.specs.Look.{read, searchFor}
 use Rattle.rules.specs.Sound.{InRange, Sound}
-use Rattle.rules.specs.Table.{ReadAnswers, SearchAnswers, countOf}
+use Rattle.rules.specs.Table.{ReadAnswers, SearchAnswers}
 use Rattle.rules.specs.Calls.{Call, reading, Answer, insertion, taken, seen, cursor, answer, run}
 use Rattle.rules.proofs.Places.{slot-unique}
 use Rattle.rules.proofs.Removing.{live-once}
 use Rattle.rules.proofs.Told.{read-answers, target-live, names-handle}
 use Rattle.rules.proofs.Refusals.{remove-refused-3, read-refused-3, step-refused-3, manual-refused-2}
 use Rattle.rules.proofs.Looking.{search-answers, search-path, search-bound}
-use Rattle.history.specs.Deed.{History, paired}
+use Rattle.history.specs.Deed.{History, paired, calls, replies}
 use Rattle.history.specs.Left
 use Rattle.history.specs.Left.{given, gone}
 use Rattle.history.specs.Demand.{Refused, HasLeft, Misses, Demand}
@@ -120,3 +120,11 @@ pub after-each : (l m : List Call) (q : Queue)
 unfolding run
 after-each [] m q = (refl, refl)
 after-each (c ∷ l) m q = let i = after-each l m (answer c q .1) in (ap (λ (a : List Answer). answer c q .0 ∷ a) (i .0), i .1)
+
+-- no call and no answer of a run is missing from its history
+pub all-told : (l : List Call) (q : Queue) → (calls (paired l (run l q .0)) ≡ l) × (replies (paired l (run l q .0)) ≡ run l q .0)
+unfolding run paired calls replies
+all-told [] q = (refl, refl)
+all-told (c ∷ l) q =
+    let i = all-told l (answer c q .1) in
+    (ap (λ (m : List Call). c ∷ m) (i .0), ap (λ (a : List Answer). answer c q .0 ∷ a) (i .1))

@@ -1,6 +1,6 @@
 -- Demand 3 for anything that follows the definitions call by call: what the store's models have to be linked to.
 -- A reader may rely on follows-demand once a store's step is shown to follow (specs/Follow); that is a later landing.
-use mathlib.Core.Path.{_≡_, refl, sym, ap, _∙_}
+use mathlib.Core.Path.{_≡_, refl}
 use mathlib.Core.List.{List, [], _∷_}
 use Prim.Native.Nat.{ℕ}
 use Rattle.wavl.specs.Lists.{All}

@@ -1,12 +1,12 @@
 -- The induction over a list of calls: what holds of a history and the queue after it, and that one call more keeps it.
 -- A reader may rely on kept-run; kept-step asks nothing of a call but that its deed tells what it did.
-use mathlib.Core.Path.{_≡_, refl, sym, ap, _∙_}
+use mathlib.Core.Path.{_≡_, refl, sym, ap}
 use mathlib.Core.Logic.{_⊎_, inl, inr}
 use mathlib.Core.List.{List, [], _∷_, _++_, append-nil, append-assoc}
 use Prim.Native.Nat.{ℕ, zero, suc, _+_}
 use native.Mathlib.Omega.{arith}
 use lib.ListN.{length, length-append}
-use Rattle.wavl.specs.Lists.{All, In, Pairwise}
+use Rattle.wavl.specs.Lists.{All, In}
 use Rattle.wavl.specs.Entry.{Entry}
 use Rattle.wavl.specs.Tree.{inorder}
 use Rattle.wavl.proofs.Lists.{all-map, all-both, in-left, in-right, in-cases}

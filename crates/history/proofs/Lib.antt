@@ -1,5 +1,6 @@
--- What is proved of a history. For a reader: Demand3 (every list of calls), Nothing (refused and looking calls) and Followed
--- (what a store has to show); the other modules lead up to these.
+-- What is proved of a history. For a reader: Demand3 (every list of calls), Nothing (refused and looking calls), Followed (what a
+-- store has to show) and Sample (one history written out); the other modules lead up to these.
+pub mod Sample
 pub mod After
 pub mod Shuffle
 pub mod Same
@@ -10,4 +11,3 @@ pub mod Induction
 pub mod Demand3
 pub mod Nothing
 pub mod Followed
-pub mod Sample

@@ -1,14 +1,13 @@
 -- Which handles name an entry: those given and not taken out, through one call.
 -- A reader may rely on these for every deed and every sound queue.
-use mathlib.Core.Path.{_≡_, refl, sym, ap, _∙_}
+use mathlib.Core.Path.{_≡_, refl, sym, _∙_}
 use mathlib.Core.Logic.{_⊎_, inl, inr}
 use mathlib.Core.List.{List, [], _∷_, _++_, append-nil}
 use Prim.Native.Nat.{ℕ}
-use native.Mathlib.Decide.{ℕ-discrete}
 use Rattle.wavl.specs.Lists.{All, In}
 use Rattle.wavl.specs.Entry.{Entry, revalued}
-use Rattle.wavl.proofs.Lists.{all-map, all-of, all-in, in-left, in-right, in-middle}
-use Rattle.rules.specs.Queue.{Handle, handle, handleOf, entryWith, Queue, entries, Holds, Names, Live}
+use Rattle.wavl.proofs.Lists.{all-map, in-left, in-middle}
+use Rattle.rules.specs.Queue.{Handle, handleOf, entryWith, Queue, entries, Names, Live}
 use Rattle.rules.specs.Sound.{Sound}
 use Rattle.rules.specs.Changes.{Swaps, Takes}
 use Rattle.rules.proofs.Lists.{in-put, in-drop, all-put, all-drop, all-at}

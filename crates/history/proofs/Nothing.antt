@@ -1,8 +1,8 @@
 -- "Each refusal returns its number alone and changes nothing"; search, reading, stepping and look-ahead change nothing either.
 -- A reader may rely on changes-nothing for every call and every queue, sound or not.
-use mathlib.Core.Path.{_≡_, refl, sym, ap, _∙_}
+use mathlib.Core.Path.{_≡_, refl, ap, _∙_}
 use mathlib.Core.Logic.{_⊎_, inl, inr}
-use mathlib.Core.List.{List, [], _∷_, _++_}
+use mathlib.Core.List.{[], _∷_, _++_}
 use Prim.Native.Nat.{ℕ}
 use Rattle.rules.specs.Queue.{Handle, Queue}
 use Rattle.rules.specs.Answers.{Inserted, new, replacing, notInserted, Removed, removed, notRemoved}
@@ -10,7 +10,7 @@ use Rattle.rules.specs.Insert.{insertNormal, insertEmpty, insertManual}
 use Rattle.rules.specs.Remove.{remove}
 use Rattle.rules.specs.Calls.{Call, normal, onEmpty, manual, lookNormal, lookEmpty, lookManual, removal, reading, searching, toFirst, toLast, toNext, toPrev, insertion, taken, answer}
 use Rattle.rules.proofs.Unchanged.{normal-unchanged, empty-unchanged, manual-unchanged, remove-unchanged}
-use Rattle.history.specs.Deed.{Event, event, History, Deed, nothing, byInsertion, byRemoval, deed, deedOf}
+use Rattle.history.specs.Deed.{Event, History, Deed, nothing, byInsertion, byRemoval, deed, deedOf}
 use Rattle.history.specs.Left.{does, left}
 use Rattle.history.specs.Demand.{Refusal, Looks}
 use Rattle.history.proofs.Induction.{leaves-then}

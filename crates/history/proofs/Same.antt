@@ -1,9 +1,9 @@
 -- The entries of the queue stay those of the history through one call.
 -- A reader may rely on after-same, for every deed, and on others-unnamed: a handle names one entry of a sound queue.
-use mathlib.Core.Path.{_≡_, refl, sym, ap, _∙_}
-use mathlib.Core.List.{List, [], _∷_, _++_}
+use mathlib.Core.Path.{_≡_, sym, _∙_}
+use mathlib.Core.List.{List, _∷_, _++_}
 use Prim.Native.Nat.{ℕ}
-use Rattle.wavl.specs.Lists.{All, In}
+use Rattle.wavl.specs.Lists.{All}
 use Rattle.wavl.specs.Entry.{Entry, revalued, slots}
 use Rattle.wavl.proofs.Lists.{all-in, all-of, all-left, all-right, in-slots, slots-append}
 use Rattle.rules.specs.Queue.{Handle, Queue, entries, Names}
@@ -13,7 +13,7 @@ use Rattle.rules.proofs.Lists.{once-differ, slots-put}
 use Rattle.rules.proofs.Removing.{live-once}
 use Rattle.history.specs.Deed.{Deed, adds, replaces, takesOut, nothing}
 use Rattle.history.specs.Left.{revalue, without, does, Shuffled}
-use Rattle.history.proofs.After.{After, Taken, Swapped}
+use Rattle.history.proofs.After.{After}
 use Rattle.history.proofs.Shuffle.{revalue-append, shuffled-revalue, revalue-none, revalue-one, without-none, without-one, shuffled-without}
 
 -- beside the entry that a handle names no other has its slot

@@ -10,7 +10,8 @@ use Rattle.wavl.specs.Taking.{takeRound, byTake, removeClimb, settle, endmost, 
 use Rattle.wavl.specs.Search.{keyRound, byKey, find, findSlot}
 use Rattle.rules.specs.Queue.{freshFrom, fresh}
 use Rattle.rules.specs.Place.{ofGeneration, spotOf}
-use Rattle.rules.specs.Insert.{addWith, placeNormal, insertNormal}
+use Rattle.rules.specs.Insert.{addWith, placeNormal, insertNormal, ahead, aheadNormal}
+use Rattle.rules.specs.Look.{readSpot, read, foundIn, searchFor}
 use Rattle.rules.specs.Remove.{freed, noteOf, removeSpot, remove}
 use Rattle.rules.specs.Calls.{answer, run}
 use Rattle.rules.specs.Bench.{key, put, take, ent}
@@ -19,5 +20,5 @@ use Rattle.history.specs.Left.{revalue, without, does, leaves, gives, gi
 use Rattle.history.specs.Sample.{script, shown, expected}
 
 pub sample : shown ≡ expected
-unfolding decLe decLt ℕ-discrete choose first last inorder plug before after neighbour replaceAt placeRound byPlace insertClimb insertAt takeRound byTake removeClimb settle endmost vacateEnd vacate removeAt keyRound byKey find findSlot freshFrom fresh ofGeneration spotOf addWith placeNormal insertNormal freed noteOf removeSpot remove answer run key put take ent paired byInsertion byRemoval deed revalue without does leaves gives given drops gone noteCount notes noted script shown expected
+unfolding decLe decLt ℕ-discrete choose first last inorder plug before after neighbour replaceAt placeRound byPlace insertClimb insertAt takeRound byTake removeClimb settle endmost vacateEnd vacate removeAt keyRound byKey find findSlot freshFrom fresh ofGeneration spotOf addWith placeNormal insertNormal ahead aheadNormal readSpot read foundIn searchFor freed noteOf removeSpot remove answer run key put take ent paired byInsertion byRemoval deed revalue without does leaves gives given drops gone noteCount notes noted script shown expected
 sample = refl

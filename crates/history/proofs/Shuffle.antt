@@ -1,12 +1,12 @@
 -- The same entries in another order: members, number, and what revaluing and taking out do to both lists alike.
 -- A reader may rely on these for any two lists of entries; no queue is needed here.
 use mathlib.Core.Path.{_≡_, refl, sym, ap, _∙_}
-use mathlib.Core.Logic.{_⊎_, inl, inr, _↔_}
+use mathlib.Core.Logic.{_⊎_, inl, inr}
 use mathlib.Core.List.{List, [], _∷_, _++_}
-use Prim.Native.Nat.{ℕ, suc, _+_}
+use Prim.Native.Nat.{ℕ, _+_}
 use native.Mathlib.Omega.{arith}
 use lib.ListN.{length, length-append}
-use Rattle.wavl.specs.Lists.{All, In, choose}
+use Rattle.wavl.specs.Lists.{All, In}
 use Rattle.wavl.specs.Entry.{Entry, revalued}
 use Rattle.wavl.proofs.Lists.{in-middle}
 use Rattle.wavl.proofs.Order.{choose-cases}

@@ -24,6 +24,15 @@ paired [] a = []
 paired (c ∷ l) [] = []
 paired (c ∷ l) (a ∷ m) = event c a ∷ paired l m
 
+-- the calls of a history, and the answers
+unfoldable pub calls : History → List Call
+calls [] = []
+calls (e ∷ h) = e .call ∷ calls h
+
+unfoldable pub replies : History → List Answer
+replies [] = []
+replies (e ∷ h) = e .reply ∷ replies h
+
 pub data Deed : Type 0 where
   -- an entry with this handle, key and value
   adds : Handle → ℕ → ℕ → Deed

@@ -2,7 +2,6 @@
 -- A reader may rely on this: proofs/Demand3 proves it of every list of calls from a fresh queue, refused calls included.
 use mathlib.Core.Path.{_≡_}
 use mathlib.Core.Logic.{_⊎_, _↔_}
-use mathlib.Core.List.{List}
 use Prim.Native.Nat.{ℕ, _+_, _*_, _^_, _≤_}
 use lib.ListN.{length}
 use Rattle.wavl.specs.Lists.{In}

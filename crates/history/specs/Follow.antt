@@ -2,12 +2,12 @@
 -- A reader may rely on this: proofs/Followed draws demand 3 for a whole run from these two facts about one call.
 use mathlib.Core.Path.{_≡_}
 use mathlib.Core.List.{List, [], _∷_}
+use Prim.Native.Nat.{ℕ}
 use Rattle.rules.specs.Queue.{Queue}
 use Rattle.rules.specs.Sound.{Sound}
 use Rattle.rules.specs.Calls.{Call, Answer, answer}
 use Rattle.history.specs.Deed.{History}
 use Rattle.history.specs.Demand.{Demand}
-use Prim.Native.Nat.{ℕ}
 
 -- a list of calls over any kind of state, by what one call does to it
 unfoldable pub runBy : {S : Type 0} → (Call → S → Answer × S) → List Call → S → List Answer × S

@@ -9,7 +9,7 @@ use Rattle.wavl.specs.Lists.{Pairwise, choose}
 use Rattle.wavl.specs.Entry.{Entry, revalued}
 use Rattle.rules.specs.Queue.{Handle, entryWith, Names, decBoth}
 use Rattle.rules.specs.Answers.{Note, noNote, generationOverflow}
-use Rattle.history.specs.Deed.{Event, History, Deed, adds, replaces, takesOut, nothing, deedOf}
+use Rattle.history.specs.Deed.{History, Deed, adds, replaces, takesOut, nothing, deedOf}
 
 -- whether a handle names an entry
 abbrev pub decNames : (h : Handle) (x : Entry) → Dec (Names h x)
