@@ -1,8 +1,8 @@
 // Lines out of the bytes that were read. A line that goes over the end of a part is kept in `line` till the rest comes.
 // `held` counts its bytes so far; 129 stands for too many.
-use crate::answer;
-use crate::answer::Answer;
 use crate::serve;
+use script::command;
+use script::command::Command;
 
 // The longest line that is read.
 pub const LONGEST: usize = 128;
@@ -14,14 +14,16 @@ pub fn feed(
     held: &mut usize,
     s: &mut [u64; 10256],
     t: &mut [u64; 17409],
-    out: &mut [u8; 65536],
+    o: &mut [u8; 65536],
     at: &mut usize,
 ) {
     let mut i: usize = 0;
     while i < part.len() {
         let b = part[i];
         if b == b'\n' {
-            finish(line, held, s, t, out, at);
+            let c = whole(line, *held);
+            *held = 0;
+            serve::respond(c, s, t, o, at);
         } else {
             keep(line, held, b);
         }
@@ -40,21 +42,11 @@ fn keep(line: &mut [u8; 128], held: &mut usize, b: u8) {
     }
 }
 
-// The line ends here: it is served, and the next one begins.
-pub fn finish(
-    line: &mut [u8; 128],
-    held: &mut usize,
-    s: &mut [u64; 10256],
-    t: &mut [u64; 17409],
-    out: &mut [u8; 65536],
-    at: &mut usize,
-) {
-    let n = *held;
-    *held = 0;
+// The command of the line that is held, now that it is whole.
+pub fn whole(line: &[u8; 128], held: usize) -> Command {
     let bytes: &[u8] = line;
-    if n <= bytes.len() {
-        serve::line(&bytes[..n], s, t, out, at);
-    } else {
-        answer::write(out, at, Answer::BadLine);
+    if held <= bytes.len() {
+        return command::read(&bytes[..held]);
     }
+    Command::Bad
 }

@@ -2,10 +2,9 @@
 // Both are many lines, so they are written as they are found.
 ghost use Prim.Native.Nat.{_<_, _≤_};
 ghost use Rattle.arena.specs.Words.{Room};
-use crate::answer;
-use crate::answer::Answer;
-use crate::out;
-use crate::table;
+use answers::answer;
+use answers::answer::Answer;
+use answers::out;
 use arena::header;
 use arena::header::Header;
 use arena::words;
@@ -24,6 +23,7 @@ use handle::Refusal;
 use queue::cursor::Cursor;
 use queue::cursor::Moved;
 use remove::reading::Reading;
+use script::table;
 
 // How many entries the chain has, counted up to `most`.
 fn chain_length(s: &[u64], most: u64) -> u64 {

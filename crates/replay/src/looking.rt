@@ -1,6 +1,5 @@
 // The commands that look: the look-ahead, `get`, `find`, steps along the chain by the cursor, and `check`.
-use crate::answer::Answer;
-use crate::table;
+use answers::answer::Answer;
 use arena::header;
 use arena::header::Header;
 use handle::Key;
@@ -11,6 +10,7 @@ use queue::cursor::Moved;
 use queue::looking::Searched;
 use remove::reading::Reading;
 use script::command::Place;
+use script::table;
 
 // What an insertion would answer, without the number of a new entry and without the old value.
 pub fn ahead(s: &[u64; 10256], t: &[u64; 17409], place: Place, key: Key) -> Answer {

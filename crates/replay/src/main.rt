@@ -1,14 +1,12 @@
 // Reads a script on standard input and writes the queue's answers on standard output, a line for a line.
 // The script language is that of paired runs: the same script gives the same bytes from the Rust side.
-mod answer;
 mod lines;
 mod listing;
 mod looking;
-mod out;
 mod placing;
 mod serve;
-mod table;
 
+use answers::out;
 use libc::STDERR_FILENO;
 use libc::STDIN_FILENO;
 
@@ -61,6 +59,8 @@ fn main() {
     let mut o = io::large_buffer();
     let mut at: usize = 0;
     read_all(&mut line, &mut held, &mut s, &mut t, &mut o, &mut at);
-    lines::finish(&mut line, &mut held, &mut s, &mut t, &mut o, &mut at);
+    // What stands behind the last newline is a line too.
+    let c = lines::whole(&line, held);
+    serve::respond(c, &mut s, &mut t, &mut o, &mut at);
     out::flush(&mut o, &mut at);
 }

@@ -1,12 +1,12 @@
 // The commands that change the queue: `new`, the three insertions, `rem`.
-use crate::answer::Answer;
-use crate::table;
+use answers::answer::Answer;
 use arena::laying::LaidOut;
 use handle::Key;
 use insert::place::Inserted;
 use queue::taking;
 use remove::removing::Removed;
 use script::command::Place;
+use script::table;
 
 // A refused `new` leaves the earlier queue and its numbers as they were.
 pub fn lay_out(s: &mut [u64; 10256], t: &mut [u64; 17409], capacity: u64, top: u64) -> Answer {

@@ -1,27 +1,24 @@
-// One line of the script and its answer. `s` is the store, `t` the table of numbers, `o` and `at` the output.
-use crate::answer;
-use crate::answer::Answer;
+// A command and its answer. `s` is the store, `t` the table of numbers, `o` and `at` the output.
 use crate::listing;
 use crate::looking;
 use crate::placing;
-use script::command;
+use answers::answer::Answer;
+use answers::answer::write;
 use script::command::Command;
 
-// Answers a line of at most 128 bytes.
-pub fn line(
-    text: &[u8],
+pub fn respond(
+    c: Command,
     s: &mut [u64; 10256],
     t: &mut [u64; 17409],
     o: &mut [u8; 65536],
     at: &mut usize,
 ) {
-    let c = command::read(text);
     match c {
         Command::List => listing::list(s, o, at),
         Command::Dump => listing::dump(s, t, o, at),
         _ => {
             let a = change(c, s, t);
-            answer::write(o, at, a);
+            write(o, at, a);
         }
     }
 }

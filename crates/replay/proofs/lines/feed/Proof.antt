@@ -5,10 +5,10 @@ use Rattle.replay.proofs.lines.feed.Statement.{statement}
 use Rattle.replay.proofs.lines.feed.Tie as tie
 
 abbrev Inv-loop : tie.InvT-loop
-Inv-loop part line₀ held₀ s₀ t₀ out₀ at₀ i₀ line held s t out at i = Unit {0}
+Inv-loop part line₀ held₀ s₀ t₀ o₀ at₀ i₀ line held s t o at i = Unit {0}
 
 abbrev μ-loop : tie.MeasureT-loop
-μ-loop part line₀ held₀ s₀ t₀ out₀ at₀ i₀ line held s t out at i = length part - i
+μ-loop part line₀ held₀ s₀ t₀ o₀ at₀ i₀ line held s t o at i = length part - i
 
 loop-holds : tie.Need-loop-holds Inv-loop μ-loop
 loop-holds c = search needs
@@ -16,8 +16,11 @@ loop-holds c = search needs
 shared-slice-read-b : tie.Need-shared-slice-read-b Inv-loop μ-loop
 shared-slice-read-b c = search needs
 
-finish-requires : tie.Need-finish-requires Inv-loop μ-loop
-finish-requires c κs = search needs
+whole-requires : tie.Need-whole-requires Inv-loop μ-loop
+whole-requires c κs = search needs
+
+respond-requires : tie.Need-respond-requires Inv-loop μ-loop
+respond-requires c κs = search needs
 
 keep-requires : tie.Need-keep-requires Inv-loop μ-loop
 keep-requires c κs = search needs
@@ -42,7 +45,8 @@ feed-spec =
     μ-loop
     loop-holds
     shared-slice-read-b
-    finish-requires
+    whole-requires
+    respond-requires
     keep-requires
     add-i
     loop-less
