@@ -25,7 +25,7 @@ use Rattle.history.specs.Left
 use Rattle.history.specs.Left.{given, gone}
 use Rattle.history.specs.Demand.{Refused, HasLeft, Misses, Demand}
 use Rattle.history.proofs.Shuffle.{shuffled-there, shuffled-back, shuffled-length}
-use Rattle.history.proofs.Ages.{passed-not-live}
+use Rattle.history.proofs.Passed.{passed-not-live}
 use Rattle.history.proofs.Induction.{Kept, kept-fresh, kept-run}
 
 -- a handle that names nothing is refused

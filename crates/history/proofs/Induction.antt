@@ -19,7 +19,7 @@ use Rattle.history.specs.Deed.{Event, event, History, paired, Deed, adds
 use Rattle.history.specs.Left.{does, leaves, left, gives, given, drops, gone, additions, removals, notes, noted, OnceEach, Shuffled}
 use Rattle.history.proofs.After.{After, answer-after}
 use Rattle.history.proofs.Same.{after-same}
-use Rattle.history.proofs.Ages.{Aged, after-aged, after-given, after-gone, after-new}
+use Rattle.history.proofs.Passed.{Aged, after-aged, after-given, after-gone, after-new}
 use Rattle.history.proofs.Live.{Listed, after-listed, after-live, after-names}
 use Rattle.history.proofs.Counts.{after-free}
 

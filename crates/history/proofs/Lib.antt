@@ -4,9 +4,9 @@ pub mod Sample
 pub mod After
 pub mod Shuffle
 pub mod Same
-pub mod Ages
-pub mod Live
 pub mod Counts
+pub mod Live
+pub mod Passed
 pub mod Induction
 pub mod Demand3
 pub mod Nothing
