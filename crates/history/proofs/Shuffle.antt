@@ -55,12 +55,12 @@ module _ (h : Handle) (v : ℕ) where
   unfolding revalue
   revalue-none [] n = refl
   revalue-none (x ∷ l) n =
-      rw (revalue-none l (n .1)) (choose-cases (λ (z : Entry). z ∷ l ≡ x ∷ l) (decNames h x) (revalued v x) x (λ y. absurd (n .0 y)) (λ y. refl))
+      rw (revalue-none l (n .1)) (choose-cases (λ (z : Entry). z ∷ l ≡ x ∷ l) (decNames h x) _ _ (λ y. absurd (n .0 y)) (λ y. refl))
 
   pub revalue-one : (x : Entry) (l : List Entry) → Names h x → revalue h v (x ∷ l) ≡ revalued v x ∷ revalue h v l
   unfolding revalue
   revalue-one x l n =
-      choose-cases (λ (z : Entry). z ∷ revalue h v l ≡ revalued v x ∷ revalue h v l) (decNames h x) (revalued v x) x (λ y. refl) (λ y. absurd (y n))
+      choose-cases (λ (z : Entry). z ∷ revalue h v l ≡ revalued v x ∷ revalue h v l) (decNames h x) _ _ (λ y. refl) (λ y. absurd (y n))
 
 module _ (h : Handle) where
   pub without-out : (x : Entry) (l : List Entry) → Names h x → without h (x ∷ l) ≡ without h l
