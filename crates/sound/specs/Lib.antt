@@ -1,0 +1,5 @@
+pub mod Nodes
+pub mod Joints
+pub mod Walking
+pub mod Slots
+pub mod Check
