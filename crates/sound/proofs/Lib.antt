@@ -1,2 +1,10 @@
 pub mod Answers
 pub mod Turns
+pub mod Choices
+pub mod NodeFacts
+pub mod SlotFacts
+pub mod Rows
+pub mod Grown
+pub mod Reached
+pub mod FreeList
+pub mod Yes
