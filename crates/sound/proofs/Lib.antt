@@ -8,3 +8,7 @@ pub mod Grown
 pub mod Reached
 pub mod FreeList
 pub mod Yes
+pub mod Walks
+pub mod Hung
+pub mod No
+pub mod Decided

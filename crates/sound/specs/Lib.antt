@@ -3,3 +3,4 @@ pub mod Joints
 pub mod Walking
 pub mod Slots
 pub mod Check
+pub mod Decides

@@ -4,7 +4,8 @@
 ghost use mathlib.Core.Path.{_≡_};
 ghost use Prim.Native.Nat.{_<_, _≤_};
 ghost use Rattle.arena.specs.Words.{Room};
-ghost use Rattle.sound.specs.Check.{topTest, unusedTest, rulesTest, soundModel};
+ghost use Rattle.sound.specs.Check.{topTest, unusedTest, rulesTest};
+ghost use Rattle.sound.specs.Decides.{Decides};
 use arena::header;
 use arena::header::Header;
 use arena::laying::TOP_LIMIT;
@@ -67,9 +68,9 @@ fn good_rules(s: &[u64], cap: u64) -> bool
     false
 }
 
-// Whether the store is sound.
+// Whether the store is sound: true exactly when it is, for any words, short stores included.
 pub fn sound(s: &[u64]) -> bool
-    ensures { λ t. ⌜ t ≡ soundModel (now (s .entry)) ⌝ }
+    ensures { λ t. ⌜ Decides (now (s .entry)) t ⌝ }
 {
     match header::test(s) {
         Header::Passes(cap) => {

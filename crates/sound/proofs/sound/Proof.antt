@@ -1,4 +1,5 @@
 use Rattle.arena.proofs.Answers.{passes-room}
+use Rattle.sound.proofs.Decided.{decides}
 use Rattle.sound.proofs.Answers.{sound-asks, sound-fails}
 use borrow.Author.Needs.{needs}
 use Rattle.sound.proofs.sound.Statement.{statement}
@@ -14,13 +15,13 @@ good-rules-requires : tie.Need-good-rules-requires
 good-rules-requires c κs = search passes-room
 
 returns : tie.Need-returns
-returns c = search sound-asks
+returns c = decides _ _ (search sound-asks)
 
 enum-told : tie.Need-enum-told
 enum-told c = search needs
 
 returns-2 : tie.Need-returns-2
-returns-2 c = search sound-fails
+returns-2 c = decides _ _ (search sound-fails)
 
 pub sound-spec : {M : Type 1} → statement M
 sound-spec =
