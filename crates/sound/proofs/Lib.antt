@@ -12,3 +12,4 @@ pub mod Walks
 pub mod Hung
 pub mod No
 pub mod Decided
+pub mod Visited

@@ -4,3 +4,4 @@ pub mod Walking
 pub mod Slots
 pub mod Check
 pub mod Decides
+pub mod Visits
