@@ -1,1 +1,2 @@
 pub mod Linked
+pub mod Checked
