@@ -4,7 +4,7 @@ use mathlib.Core.Path.{_≡_}
 use mathlib.Core.Bool.{Bool, true, false}
 use mathlib.Core.List.{List}
 use lib.Dec.{ltb, eqb}
-use borrow.Author.Tests.{lt-ltb, le-ltb}
+use borrow.Author.Tests.{lt-ltb, le-ltb, lt-leb}
 use Rattle.arena.specs.Words.{field, head, LEFT, RIGHT, RANK, BACK, GENERATION, STACK, TOP, HEIGHT}
 use Rattle.tree.specs.Links.{rankOf}
 use Rattle.sound.specs.Nodes.{fitsTest, generationTest, ranksTest}
@@ -42,6 +42,11 @@ module _ (s : List ℕ) (cap : ℕ) (x : Bool) where
   pub place-reads : (h p i : ℕ) → i ≡ field s cap p STACK → x ≡ placeWith s cap h p i → x ≡ placeTest s cap h p
   unfolding placeTest
   place-reads h p i e q = rw (← e) q
+
+  pub place-asks : (h p i r b : ℕ) → i ≡ field s cap p STACK → p < h → i < cap → r ≡ field s cap i RANK → r ≡ 0 → b ≡ field s cap i BACK → x ≡ eqb b p
+      → x ≡ placeTest s cap h p
+  unfolding placeTest placeWith
+  place-asks h p i r b e l m f z g q = rw (← e, lt-leb h p l, lt-leb cap i m, ← f, z, ← g) q
 
 -- rules 1 to 7, by what was read and tested before
 module _ (s : List ℕ) (cap top h : ℕ) (e : top ≡ head s TOP) (f : h ≡ head s HEIGHT) where

@@ -1,5 +1,5 @@
 use Rattle.arena.proofs.Paths.{paths, tested}
-use Rattle.sound.proofs.Answers.{eq-asks, place-reads}
+use Rattle.sound.proofs.Answers.{place-reads, place-asks}
 use Rattle.sound.specs.Slots.{placeWith}
 use borrow.Author.Needs.{needs}
 use Rattle.sound.proofs.slots.good_place.Statement.{statement}
@@ -27,8 +27,7 @@ field-requires-3 : tie.Need-field-requires-3
 field-requires-3 c κs = search needs
 
 returns-4 : tie.Need-returns-4
-unfolding placeWith
-returns-4 c = search (place-reads, eq-asks, paths) depth 14
+returns-4 c = search place-asks
 
 pub good-place-spec : {M : Type 1} → statement M
 good-place-spec =
