@@ -5,6 +5,7 @@ use mathlib.Core.Path.{_≡_, refl}
 use mathlib.Core.List.{List}
 use Rattle.handle.specs.Numbers.{refusalNumber}
 use Rattle.handle.specs.declared.Refusal.{Refusal}
+use Rattle.insert.specs.Kept.{Within}
 use Rattle.insert.specs.Place.{replaced}
 use Rattle.insert.specs.declared.place.Inserted as I
 use Rattle.wavl.specs.Entry.{Entry}
@@ -18,12 +19,11 @@ use Rattle.holds.specs.Holds.{Holds}
 use Rattle.holds.proofs.Parts.{sound-of, words-of, holds-of, separate-of}
 use Rattle.holds.proofs.Live.{live-entry, spot-in}
 use Rattle.holds.proofs.Valued.{new-value}
-use Rattle.placed.specs.Keeps.{Keeps}
 use Rattle.placed.specs.Meaning.{Inserts}
 use Rattle.placed.proofs.Answers.{Answers}
 
 -- a sound queue's words make a store that holds it
-pub inserts : {s : List ℕ} {cap : ℕ} {r : List ℕ × I.Inserted} {m : Inserted × Queue} → Sound (m .1) → Answers r m → Keeps s (r .0) cap → Inserts s cap r m
+pub inserts : {s : List ℕ} {cap : ℕ} {r : List ℕ × I.Inserted} {m : Inserted × Queue} → Sound (m .1) → Answers r m → Within s (r .0) cap → Inserts s cap r m
 inserts d a c = record { answer = a .answer; holds = holds-of d (a .words); keeps = c }
 
 module _ {s : List ℕ} {q : Queue} (k : Holds s q) where
