@@ -4,8 +4,8 @@ use mathlib.Core.Path.{_≡_}
 use mathlib.Core.List.{List}
 use borrow.Author.Tests.{lt-ltb, le-ltb}
 use Rattle.arena.specs.Words.{field, put, LEFT, RIGHT, RANK, BACK}
-use Rattle.tree.specs.Links.{rankOf, sideOf, withBack, withNode, relinked}
-use Rattle.lower.specs.Turns.{turnOnce, hung, turnTwiceWith, turnTwice}
+use Rattle.tree.specs.Links.{rankOf, sideOf, withBack, withNode, relinked, spreadWith}
+use Rattle.lower.specs.Turns.{turnOnce, turnTwiceWith, turnTwice}
 use Rattle.lower.specs.Climb.{goUpTo, goUp, onward, lowerOne, lowerBoth, climbPastWith, climbPast, climbAtWith, climbAt, climbTurnWith, climbTurn}
 use Rattle.lower.specs.declared.climbing.Climbed.{Climbed}
 use Rattle.lower.specs.declared.climbing.Climbed.the-variants.{Done, Up}
@@ -17,13 +17,8 @@ module _ (s : List ℕ) (cap d p0 p1 p2 s0 a b ra rank1 : ℕ) (x y z w : List �
   unfolding turnOnce
   once-steps e f g h = rw (← e, ← f, ← g) h
 
-  pub hang-steps : (c k : ℕ) → x ≡ withBack s cap c p1 → y ≡ withBack x cap k s0 → z ≡ withNode y cap d p1 a p0 c ra
-      → w ≡ withNode z cap d s0 a k b ra → w ≡ hung s cap d p0 p1 s0 a b c k ra
-  unfolding hung
-  hang-steps c k e f g h = rw (← e, ← f, ← g) h
-
 module _ (s : List ℕ) (cap d p0 p1 p2 s0 a b ra rank1 : ℕ) (x y z : List ℕ) (c k : ℕ) where
-  pub twice-steps : c ≡ field s cap a (LEFT + d) → k ≡ field s cap a (RIGHT - d) → x ≡ hung s cap d p0 p1 s0 a b c k ra
+  pub twice-steps : c ≡ field s cap a (LEFT + d) → k ≡ field s cap a (RIGHT - d) → x ≡ spreadWith s cap d a p1 s0 p0 c k b ra
       → y ≡ withNode x cap d a p2 p1 s0 rank1 → z ≡ relinked y cap p2 p1 a → z ≡ turnTwice s cap d p0 p1 p2 s0 a b ra rank1
   unfolding turnTwice turnTwiceWith
   twice-steps e f g h i = rw (← e, ← f, ← g, ← h) i

@@ -9,8 +9,8 @@ use borrow.Author.Tests.{ltb-true, leb-false}
 use Rattle.arena.specs.Words.{field, put, RANK, BACK}
 use Rattle.tree.specs.Links.{sideOf}
 use Rattle.tree.specs.Kept.{TreeOnly}
-use Rattle.tree.proofs.Keeps.{either, only-refl, only-trans, only-put, side-small, back-only, relinked-only, node-only}
-use Rattle.lower.specs.Turns.{turnOnce, hung, turnTwiceWith, turnTwice}
+use Rattle.tree.proofs.Keeps.{either, only-refl, only-trans, only-put, side-small, back-only, relinked-only, node-only, spread-only}
+use Rattle.lower.specs.Turns.{turnOnce, turnTwiceWith, turnTwice}
 use Rattle.lower.specs.Climb.{goUpTo, goUp, Standing, onward, lowerOne, lowerBoth, climbPastWith, climbPast, climbAtWith, climbAt, climbTurnWith, climbTurn, onClimbed, climbFrom}
 use Rattle.lower.specs.declared.climbing.Climbed.{Climbed}
 use Rattle.lower.specs.declared.climbing.Climbed.the-variants.{Done, Up, NotSound}
@@ -25,13 +25,10 @@ module _ (s : List ℕ) (cap d p0 p1 p2 s0 a b ra rank1 : ℕ) (h1 : p1 < cap) (
       (only-trans _ _ _ _ (node-only _ _ _ _ _ _ _ _ hs hd) (relinked-only _ _ _ _ _)))
 
   pub twice-only : a < cap → TreeOnly s (turnTwice s cap d p0 p1 p2 s0 a b ra rank1) cap
-  unfolding turnTwice turnTwiceWith hung
+  unfolding turnTwice turnTwiceWith
   twice-only ha =
-      only-trans _ _ _ _ (back-only _ _ _ _)
-      (only-trans _ _ _ _ (back-only _ _ _ _)
-      (only-trans _ _ _ _ (node-only _ _ _ _ _ _ _ _ h1 hd)
-      (only-trans _ _ _ _ (node-only _ _ _ _ _ _ _ _ hs hd)
-      (only-trans _ _ _ _ (node-only _ _ _ _ _ _ _ _ ha hd) (relinked-only _ _ _ _ _)))))
+      only-trans _ _ _ _ (spread-only _ _ _ _ _ _ _ _ _ _ _ h1 hs hd)
+      (only-trans _ _ _ _ (node-only _ _ _ _ _ _ _ _ ha hd) (relinked-only _ _ _ _ _))
 
 -- a turn touches the tree alone, and its answer can be used
 abbrev pub Turned : List ℕ → ℕ → List ℕ × Climbed → Type 0

@@ -8,11 +8,11 @@ use borrow.Author.Tests.{ltb-true, leb-false}
 use Rattle.arena.specs.Words.{field, put, RANK, BACK}
 use Rattle.tree.specs.Links.{sideOf}
 use Rattle.tree.specs.Kept.{TreeOnly}
-use Rattle.rebalance.specs.Turns.{liftedOne, turnedSame, spreadWith, spreadBelow, turnedAcross}
+use Rattle.rebalance.specs.Turns.{liftedOne, turnedSame, spreadBelow, turnedAcross}
 use Rattle.rebalance.specs.Ranks.{budget, FixedIn, above, raisedUp, fixWith, fixTurn, onFixed, climbFrom, climbedTo, climbedAbove, rebalanced}
 use Rattle.rebalance.specs.declared.ranks.Fixed.{Fixed}
 use Rattle.rebalance.specs.declared.ranks.Fixed.the-variants.{Done, Up, NotSound}
-use Rattle.tree.proofs.Keeps.{either, only-refl, only-trans, only-put, side-small, back-only, relinked-only, node-only}
+use Rattle.tree.proofs.Keeps.{either, only-refl, only-trans, only-put, side-small, back-only, relinked-only, node-only, spread-only}
 
 module _ (s : List ℕ) (cap d p0 p1 p2 p3 : ℕ) (h0 : p0 < cap) (h1 : p1 < cap) (h2 : p2 < cap) (hd : d ≤ 1) where
   pub same-only : (s1 : ℕ) → TreeOnly s (turnedSame s cap d p0 p1 p2 p3 s1) cap
@@ -24,13 +24,10 @@ module _ (s : List ℕ) (cap d p0 p1 p2 p3 : ℕ) (h0 : p0 < cap) (h1 : p1 < cap
       (only-trans _ _ _ _ (node-only _ _ _ _ _ _ _ _ h2 hd) (relinked-only _ _ _ _ _))))
 
   pub across-only : (s1 : ℕ) → TreeOnly s (turnedAcross s cap d p0 p1 p2 p3 s1) cap
-  unfolding turnedAcross spreadBelow spreadWith
+  unfolding turnedAcross spreadBelow
   across-only s1 =
-      only-trans _ _ _ _ (back-only _ _ _ _)
-      (only-trans _ _ _ _ (back-only _ _ _ _)
-      (only-trans _ _ _ _ (node-only _ _ _ _ _ _ _ _ h1 hd)
-      (only-trans _ _ _ _ (node-only _ _ _ _ _ _ _ _ h2 hd)
-      (only-trans _ _ _ _ (node-only _ _ _ _ _ _ _ _ h0 hd) (relinked-only _ _ _ _ _)))))
+      only-trans _ _ _ _ (spread-only _ _ _ _ _ _ _ _ _ _ _ h1 h2 hd)
+      (only-trans _ _ _ _ (node-only _ _ _ _ _ _ _ _ h0 hd) (relinked-only _ _ _ _ _))
 
 -- a turn touches the tree alone, and its answer can be used
 abbrev pub Turned : List ℕ → ℕ → List ℕ × Fixed → Type 0
