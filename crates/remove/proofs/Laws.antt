@@ -22,12 +22,11 @@ use Rattle.lower.specs.Climb.{lowerOne}
 use Rattle.lower.proofs.Laws.{lower-only, on-only, climb-only}
 use Rattle.remove.specs.Lift.{sideUnder, hungUp, liftWith, liftOut, standing, replaced}
 use Rattle.remove.specs.Take.{isChildless, settleBare, settleAt, replacementOf, filledFrom, filledBy, closedFrom, takeOver, takeOut}
-use Rattle.remove.specs.Remove.{letGo, removeLive, removeBy, readBy}
+use Rattle.remove.specs.Remove.{letGo, removeLive, removeBy}
 use Rattle.remove.specs.Kept.{OthersKept}
 use Rattle.remove.specs.declared.lifting.Lifted.{Lifted}
 use Rattle.remove.specs.declared.removing.Removed.{Removed}
 use Rattle.remove.specs.declared.removing.Removed as D
-use Rattle.remove.specs.declared.reading.Reading as Q
 use Rattle.remove.proofs.Keeps.{kept-refl, kept-trans, tree-kept, chain-kept, blank-kept, pushed-kept}
 use Rattle.remove.proofs.RemoveReads.{live-low}
 
@@ -130,7 +129,3 @@ module _ (s : List ℕ) (cap : ℕ) (h : Handle) where
   pub dead-refused : isLive s cap h ≡ false → removeBy s cap h ≡ (s, D.the-variants.Refused InvalidPtr)
   unfolding removeBy
   dead-refused e = rw e
-
-  pub dead-unread : isLive s cap h ≡ false → readBy s cap h ≡ Q.the-variants.Refused InvalidPtr
-  unfolding readBy
-  dead-unread e = rw e
