@@ -1,7 +1,7 @@
 -- A replacement, and a refusal that changes nothing, on a store that holds a queue.
 -- A reader may rely on: swaps: the old value and the kept handle are answered, and the store holds the queue with the new value.
 use Prim.Native.Nat.{ℕ}
-use mathlib.Core.Path.{_≡_, refl}
+use mathlib.Core.Path.{_≡_, refl, ap}
 use mathlib.Core.List.{List}
 use Rattle.handle.specs.Numbers.{refusalNumber}
 use Rattle.handle.specs.declared.Refusal.{Refusal}
@@ -11,8 +11,8 @@ use Rattle.insert.specs.declared.place.Inserted as I
 use Rattle.wavl.specs.Entry.{Entry}
 use Rattle.wavl.specs.Tree.{Tree, fork}
 use Rattle.wavl.specs.Way.{Way, plug, replaceAt}
-use Rattle.rules.specs.Queue.{Queue}
-use Rattle.rules.specs.Answers.{Inserted, notInserted}
+use Rattle.rules.specs.Queue.{handleOf, Queue}
+use Rattle.rules.specs.Answers.{Inserted, replacing, notInserted}
 use Rattle.rules.specs.Insert.{swapAt}
 use Rattle.rules.specs.Sound.{Sound}
 use Rattle.holds.specs.Holds.{Holds}
@@ -38,4 +38,4 @@ module _ {s : List ℕ} {q : Queue} (k : Holds s q) where
   unfolding replaced replaceAt
   swaps value a x r b p e =
       let w = live-entry k x (spot-in k a x r b p e) in
-      record { answer = rw (w .generation-is, w .value-is); words = new-value (separate-of (sound-of k)) (words-of k) a x r b p e value }
+      record { answer = rw (w .generation-is) (ap (replacing (handleOf x)) (w .value-is)); words = new-value (separate-of (sound-of k)) (words-of k) a x r b p e value }
