@@ -21,8 +21,9 @@ use Rattle.wavl.proofs.Placed.{make, Parts, parts, WayRanks}
 use Rattle.wavl.proofs.Rounds.{remove-root, remove-stop, remove-lower, remove-rotate, remove-lower-both, remove-rotate-twice}
 use Rattle.tree.specs.Links.{spreadWith}
 use Rattle.lower.specs.Turns.{turnOnce, turnTwiceWith, turnTwice}
-use Rattle.lower.specs.Climb.{goUp, onward, lowerOne, lowerBoth, climbTurn, onClimbed, climbFrom}
-use Rattle.lower.specs.declared.climbing.Climbed.the-variants.{Done}
+use Rattle.tree.specs.Climb.{onClimbed}
+use Rattle.tree.specs.declared.Climbed.the-variants.{Done}
+use Rattle.lower.specs.Climb.{goUp, onward, lowerOne, lowerBoth, climbTurn, climbFrom}
 use Rattle.holds.specs.Ends.{topSlot, number}
 use Rattle.holds.specs.Links.{Node, Links, TreeWords}
 use Rattle.holds.proofs.AnyDepth.{Regrown}

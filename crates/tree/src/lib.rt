@@ -13,6 +13,13 @@ use arena::words::RIGHT;
 use arena::words::ROOT;
 use handle::Handle;
 
+// After a turn of a climb: the ranks fit from here on, or the climb goes on at a node and its side on which the turn was.
+pub enum Climbed {
+    Done,
+    Up(u64, u64),
+    NotSound,
+}
+
 // The rank of a child that may be missing: "A missing child counts as rank 0."
 pub fn rank_of(s: &[u64], cap: u64, p: u64) -> u64
     requires { ⌜ Room (now s) cap ⌝ }
