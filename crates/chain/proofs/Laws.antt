@@ -141,11 +141,6 @@ pub unlink-is : (s : List ℕ) (cap i p q : ℕ) → field s cap i PREV ≡ p �
 unfolding unlinkSlot neighbours
 unlink-is s cap i p q e f = rw (e, f)
 
--- of p before and q after, the one on side d
-abbrev pub on : ℕ → ℕ → ℕ → ℕ
-on zero p q = p
-on (suc d) p q = q
-
 module _ (s : List ℕ) (cap p q : ℕ) where
   room-hooked : Room s cap → Room (hooked s cap p q 0) cap
   room-hooked room = omega (arith, hooked-only s cap p q 0 (omega arith) .long)
@@ -188,26 +183,3 @@ module _ (s : List ℕ) (cap p q : ℕ) where
   pub joined-last-kept : q < cap → head (joined s cap p q) LAST ≡ head s LAST
   unfolding joined
   joined-last-kept l = hooked-heads _ _ _ _ 1 (omega arith) l LAST (omega arith) ∙ hooked-head _ _ _ _ 0 (omega arith) LAST (omega arith) (λ e. omega arith)
-
-  -- the three pairs over the side: a stands on side d of what left, b on the other
-  pub joined-at : Room s cap → (d a b : ℕ) → d ≤ 1 → a ≡ on d p q → b ≡ on d q p → a < cap → field (joined s cap p q) cap a (NEXT - d) ≡ b
-  joined-at room zero a b hd e f l = rw (e, f) (joined-next room (rw e at l))
-  joined-at room (suc zero) a b hd e f l = rw (e, f) (joined-prev room (rw e at l))
-  joined-at room (suc (suc d)) a b hd e f l = absurd (omega arith)
-
-  pub joined-end : Room s cap → (d a b : ℕ) → d ≤ 1 → a ≡ on d p q → b ≡ on d q p → cap ≤ a → head (joined s cap p q) (FIRST + d) ≡ b
-  joined-end room zero a b hd e f l = rw f (joined-first room (rw e at l))
-  joined-end room (suc zero) a b hd e f l = rw f (joined-last room (rw e at l))
-  joined-end room (suc (suc d)) a b hd e f l = absurd (omega arith)
-
-  pub joined-end-kept : (d a : ℕ) → d ≤ 1 → a ≡ on d p q → a < cap → head (joined s cap p q) (FIRST + d) ≡ head s (FIRST + d)
-  joined-end-kept zero a hd e l = joined-first-kept (rw e at l)
-  joined-end-kept (suc zero) a hd e l = joined-last-kept (rw e at l)
-  joined-end-kept (suc (suc d)) a hd e l = absurd (omega arith)
-
--- p on side 0, q on side 1: the neighbours that a slot has
-pub on-field : (s : List ℕ) (cap i p q d : ℕ) → d ≤ 1 → field s cap i PREV ≡ p → field s cap i NEXT ≡ q
-    → (field s cap i (PREV + d) ≡ on d p q) × (field s cap i (NEXT - d) ≡ on d q p)
-on-field s cap i p q zero hd e f = (e, f)
-on-field s cap i p q (suc zero) hd e f = (f, e)
-on-field s cap i p q (suc (suc d)) hd e f = absurd (omega arith)

@@ -1,12 +1,12 @@
 -- What the search comes to, node by node, for proofs on sound stores; what it reads; and what holds of its answer on any words.
 use Prim.Native.Nat.{ℕ, zero, suc, _+_, _<_, _≤_}
-use mathlib.Core.Path.{_≡_, refl, sym, _∙_}
+use mathlib.Core.Path.{_≡_, refl}
 use mathlib.Core.List.{List}
 use native.Mathlib.Omega.{arith}
 use native.Mathlib.Decide.{decLt, ℕ-discrete}
 use borrow.Author.Tests.{lt-ltb, le-ltb, eq-eqb, ne-eqb, le-leb, lt-leb}
 use Rattle.handle.specs.Numbers.{noSlot}
-use Rattle.arena.specs.Words.{field, head, KEY, LEFT, RIGHT, ROOT}
+use Rattle.arena.specs.Words.{field, head, KEY, LEFT, ROOT}
 use Rattle.find.specs.Seeking.{budget, sideOf, seekFrom, seekAt, seekModel, FoundIn}
 use Rattle.find.specs.declared.Found.the-variants.{Equal, Beside, Empty, NotSound}
 
@@ -81,33 +81,3 @@ found-in s cap k = go (ℕ-discrete (head s ROOT) noSlot)
     go : Dec (head s ROOT ≡ noSlot) → FoundIn cap (seekModel s cap k)
     go (yes e) = rw (seek-empty s cap k _ refl e) (tt {0})
     go (no e) = rw (seek-some s cap k _ refl e) (seek-in budget s cap k (head s ROOT) 0 (omega arith))
-
--- the search reads no fields but KEY, LEFT and RIGHT, and of the header ROOT alone
-module _ (s t : List ℕ) (cap k : ℕ) (same : (j f : ℕ) → j < cap → f ≤ RIGHT → field t cap j f ≡ field s cap j f) where
-  seek-same-from : (fuel p n : ℕ) → seekFrom fuel t cap k p n ≡ seekFrom fuel s cap k p n
-  unfolding seekFrom
-  seek-same-from zero p n = refl
-  seek-same-from (suc fuel) p n =
-      let key = field s cap p KEY in
-      let q = field s cap p (LEFT + sideOf k key) in
-      go (decLt p cap) (ℕ-discrete key k) (ℕ-discrete q noSlot) (seek-same-from fuel q (n + 1))
-    where
-      go : Dec (p < cap) → Dec (field s cap p KEY ≡ k) → Dec (field s cap p (LEFT + sideOf k (field s cap p KEY)) ≡ noSlot)
-          → seekFrom fuel t cap k (field s cap p (LEFT + sideOf k (field s cap p KEY))) (n + 1) ≡ seekFrom fuel s cap k (field s cap p (LEFT + sideOf k (field s cap p KEY))) (n + 1)
-          → seekFrom (suc fuel) t cap k p n ≡ seekFrom (suc fuel) s cap k p n
-      go (no h) e z i = let h′ : cap ≤ p = omega arith in seek-outside fuel t cap k p n h′ ∙ sym (seek-outside fuel s cap k p n h′)
-      go (yes h) (yes e) z i = seek-equal fuel t cap k p n h _ (same p KEY h (omega arith)) e ∙ sym (seek-equal fuel s cap k p n h _ refl e)
-      go (yes h) (no e) (yes z) i =
-          seek-beside fuel t cap k p n h _ (same p KEY h (omega arith)) e _ _ refl (same p _ h (omega (arith, side-small k (field s cap p KEY)))) z
-          ∙ sym (seek-beside fuel s cap k p n h _ refl e _ _ refl refl z)
-      go (yes h) (no e) (no z) i =
-          seek-down fuel t cap k p n h _ (same p KEY h (omega arith)) e _ _ refl (same p _ h (omega (arith, side-small k (field s cap p KEY)))) z
-          ∙ i
-          ∙ sym (seek-down fuel s cap k p n h _ refl e _ _ refl refl z)
-
-  pub seek-same : head t ROOT ≡ head s ROOT → seekModel t cap k ≡ seekModel s cap k
-  seek-same r = go (ℕ-discrete (head s ROOT) noSlot)
-    where
-      go : Dec (head s ROOT ≡ noSlot) → seekModel t cap k ≡ seekModel s cap k
-      go (yes e) = seek-empty t cap k _ r e ∙ sym (seek-empty s cap k _ refl e)
-      go (no e) = seek-some t cap k _ r e ∙ seek-same-from budget (head s ROOT) 0 ∙ sym (seek-some s cap k _ refl e)

@@ -1,5 +1,6 @@
 -- What holds of every answer on any words: a refusal other than NotSound changes nothing, and the look-ahead tells the answer.
 -- Document 01: "Each refusal returns its number alone and changes nothing"; the look-ahead tells what "the same insertion would get next".
+-- A reader may rely on: refused-same, normal-told, empty-told and manual-told, ends in themselves. They hold on unsound stores too.
 use Prim.Native.Nat.{ℕ}
 use mathlib.Core.Path.{_≡_, refl}
 use mathlib.Core.Bool.{Bool, true, false}

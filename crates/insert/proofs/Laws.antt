@@ -15,7 +15,7 @@ use Rattle.arena.specs.Branch.{ifte}
 use Rattle.arena.specs.Entries.{isLive}
 use Rattle.arena.specs.Keys.{stored}
 use Rattle.arena.specs.Slots.{TakenIn, takeSlot}
-use Rattle.arena.specs.Words.{field, head, put, KEY, LEFT, PREV, VALUE, ROOT}
+use Rattle.arena.specs.Words.{field, head, KEY, LEFT, PREV, VALUE, ROOT}
 use Rattle.arena.specs.declared.slots.Taken.{Taken}
 use Rattle.arena.specs.declared.slots.Taken as T
 use Rattle.chain.specs.Links.{linkBeside}

@@ -4,4 +4,3 @@ pub mod Foresights
 pub mod Keeps
 pub mod Laws
 pub mod Placings
-pub mod Stores

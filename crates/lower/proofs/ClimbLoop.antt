@@ -2,25 +2,11 @@
 use mathlib.Core.Path.{_≡_}
 use mathlib.Core.Bool.{Bool, true, false}
 use mathlib.Core.List.{List}
-use Prim.Native.Nat.{ℕ, suc, _+_, _-_, _<_, _≤_}
-use native.Mathlib.Omega.{arith}
-use Rattle.lower.specs.Climb.{climbTurn, climbFrom, Standing}
-use Rattle.lower.specs.declared.climbing.Climbed.{Climbed}
-use Rattle.lower.specs.declared.climbing.Climbed.the-variants.{Done, Up, NotSound}
-
-left : (n : ℕ) → n < 64 → 64 - n ≡ suc (64 - (n + 1))
-left n h = omega arith
-
-none-left : (n : ℕ) → 64 ≤ n → 64 - n ≡ 0
-none-left n h = omega arith
-
--- what a turn's answer says of the next node and its side
-module _ (cap : ℕ) (a : Climbed) (p d : ℕ) (e : a ≡ Up p d) (h : Standing cap a) where
-  pub up-low : p < cap
-  up-low = (rw e at h) .0
-
-  pub up-side : d ≤ 1
-  up-side = (rw e at h) .1
+use Prim.Native.Nat.{ℕ, _+_, _-_, _<_, _≤_}
+use Rattle.tree.specs.declared.Climbed.{Climbed}
+use Rattle.tree.specs.declared.Climbed.the-variants.{Done, Up, NotSound}
+use Rattle.tree.proofs.Climb.{left, none-left}
+use Rattle.lower.specs.Climb.{climbTurn, climbFrom}
 
 module _ (s : List ℕ) (cap p1 d n : ℕ) (r : List ℕ × Bool) (inv : climbFrom (64 - n) s cap p1 d ≡ r) where
   pub spent : 64 ≤ n → (s, false) ≡ r

@@ -2,13 +2,13 @@
 use Prim.Native.Nat.{ℕ, _+_, _-_, _<_, _≤_}
 use mathlib.Core.Path.{_≡_}
 use mathlib.Core.List.{List}
-use borrow.Author.Tests.{lt-ltb, le-ltb}
+use borrow.Author.Tests.{lt-ltb, le-ltb, le-leb, lt-leb, eq-eqb, ne-eqb}
 use Rattle.arena.specs.Words.{field, put, LEFT, RIGHT, RANK, BACK}
-use Rattle.tree.specs.Links.{rankOf, sideOf, withBack, withNode, relinked}
-use Rattle.lower.specs.Turns.{turnOnce, hung, turnTwiceWith, turnTwice}
+use Rattle.tree.specs.Links.{rankOf, sideOf, withBack, withNode, relinked, spreadWith}
+use Rattle.tree.specs.declared.Climbed.{Climbed}
+use Rattle.tree.specs.declared.Climbed.the-variants.{Done, Up}
+use Rattle.lower.specs.Turns.{turnOnce, turnTwiceWith, turnTwice}
 use Rattle.lower.specs.Climb.{goUpTo, goUp, onward, lowerOne, lowerBoth, climbPastWith, climbPast, climbAtWith, climbAt, climbTurnWith, climbTurn}
-use Rattle.lower.specs.declared.climbing.Climbed.{Climbed}
-use Rattle.lower.specs.declared.climbing.Climbed.the-variants.{Done, Up}
 
 -- the writes of a rotation, one after another
 module _ (s : List ℕ) (cap d p0 p1 p2 s0 a b ra rank1 : ℕ) (x y z w : List ℕ) where
@@ -17,13 +17,8 @@ module _ (s : List ℕ) (cap d p0 p1 p2 s0 a b ra rank1 : ℕ) (x y z w : List �
   unfolding turnOnce
   once-steps e f g h = rw (← e, ← f, ← g) h
 
-  pub hang-steps : (c k : ℕ) → x ≡ withBack s cap c p1 → y ≡ withBack x cap k s0 → z ≡ withNode y cap d p1 a p0 c ra
-      → w ≡ withNode z cap d s0 a k b ra → w ≡ hung s cap d p0 p1 s0 a b c k ra
-  unfolding hung
-  hang-steps c k e f g h = rw (← e, ← f, ← g) h
-
 module _ (s : List ℕ) (cap d p0 p1 p2 s0 a b ra rank1 : ℕ) (x y z : List ℕ) (c k : ℕ) where
-  pub twice-steps : c ≡ field s cap a (LEFT + d) → k ≡ field s cap a (RIGHT - d) → x ≡ hung s cap d p0 p1 s0 a b c k ra
+  pub twice-steps : c ≡ field s cap a (LEFT + d) → k ≡ field s cap a (RIGHT - d) → x ≡ spreadWith s cap d a p1 s0 p0 c k b ra
       → y ≡ withNode x cap d a p2 p1 s0 rank1 → z ≡ relinked y cap p2 p1 a → z ≡ turnTwice s cap d p0 p1 p2 s0 a b ra rank1
   unfolding turnTwice turnTwiceWith
   twice-steps e f g h i = rw (← e, ← f, ← g, ← h) i
@@ -53,6 +48,12 @@ pub past-reads : (s : List ℕ) (cap d p0 p1 s0 rank0 rank1 rs : ℕ) (x : List 
 unfolding climbPast
 past-reads s cap d p0 p1 s0 rank0 rank1 rs x a b ra rb p2 e f g h i q = rw (← e, ← f, ← g, ← h, ← i) q
 
+pub past-both : (s : List ℕ) (cap d p0 p1 s0 rank0 rank1 rs : ℕ) (x : List ℕ × Climbed) (a b ra rb p2 : ℕ) → ra < 64 → rb < 64 → (rb + 1 ≡ rs → ⊥) → ra + 2 ≡ rs
+    → x ≡ lowerBoth s cap p1 s0 rank0 → x ≡ climbPastWith s cap d p0 p1 s0 rank0 rank1 rs a b ra rb p2
+unfolding climbPastWith
+past-both s cap d p0 p1 s0 rank0 rank1 rs x a b ra rb p2 la lb n h e =
+    rw (lt-leb 64 ra la, lt-leb 64 rb lb, ne-eqb (rb + 1) rs n, eq-eqb (ra + 2) rs h) e
+
 pub at-reads : (s : List ℕ) (cap d p0 p1 s0 rank0 rank1 : ℕ) (x : List ℕ × Climbed) (rs : ℕ)
     → rs ≡ field s cap s0 RANK → x ≡ climbAtWith s cap d p0 p1 s0 rank0 rank1 rs → x ≡ climbAt s cap d p0 p1 s0 rank0 rank1
 unfolding climbAt
@@ -63,3 +64,8 @@ pub turn-reads : (s : List ℕ) (cap p1 d : ℕ) (x : List ℕ × Climbed) (p0 s
     → x ≡ climbTurnWith s cap p1 d p0 s0 rank1 rank0 → x ≡ climbTurn s cap p1 d
 unfolding climbTurn
 turn-reads s cap p1 d x p0 s0 rank1 rank0 e f g h q = rw (← e, ← f, ← g, ← h) q
+
+pub turn-fits : (s : List ℕ) (cap p1 d p0 s0 rank1 rank0 : ℕ) → rank0 < 64 → rank1 ≤ rank0 + 2
+    → _≡_ {A = List ℕ × Climbed} (s, Done) (climbTurnWith s cap p1 d p0 s0 rank1 rank0)
+unfolding climbTurnWith
+turn-fits s cap p1 d p0 s0 rank1 rank0 l h = rw (lt-leb 64 rank0 l, le-leb rank1 (rank0 + 2) h)

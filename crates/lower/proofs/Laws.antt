@@ -1,19 +1,19 @@
 -- What the climb leaves alone, for proofs on sound stores and for the promises on any store: all but the tree.
 -- `TreeOnly` and its laws for the steps of crate `tree` are shared with the climb after an insertion.
 use Prim.Native.Nat.{ℕ, zero, suc, _+_, _-_, _<_, _≤_}
-use mathlib.Core.Bool.{Bool}
 use mathlib.Core.List.{List}
 use native.Mathlib.Omega.{arith}
 use lib.Dec.{ltb, leb, eqb}
 use borrow.Author.Tests.{ltb-true, leb-false}
 use Rattle.arena.specs.Words.{field, put, RANK, BACK}
 use Rattle.tree.specs.Links.{sideOf}
+use Rattle.tree.specs.Climb.{Standing}
 use Rattle.tree.specs.Kept.{TreeOnly}
-use Rattle.tree.proofs.Keeps.{either, only-refl, only-trans, only-put, side-small, back-only, relinked-only, node-only}
-use Rattle.lower.specs.Turns.{turnOnce, hung, turnTwiceWith, turnTwice}
-use Rattle.lower.specs.Climb.{goUpTo, goUp, Standing, onward, lowerOne, lowerBoth, climbPastWith, climbPast, climbAtWith, climbAt, climbTurnWith, climbTurn, onClimbed, climbFrom}
-use Rattle.lower.specs.declared.climbing.Climbed.{Climbed}
-use Rattle.lower.specs.declared.climbing.Climbed.the-variants.{Done, Up, NotSound}
+use Rattle.tree.specs.declared.Climbed.the-variants.{Done, Up}
+use Rattle.tree.proofs.Climb.{Turned, turned-done, turned-bad, on-only}
+use Rattle.tree.proofs.Keeps.{either, only-refl, only-trans, only-put, side-small, back-only, relinked-only, node-only, spread-only}
+use Rattle.lower.specs.Turns.{turnOnce, turnTwiceWith, turnTwice}
+use Rattle.lower.specs.Climb.{goUpTo, goUp, onward, lowerOne, lowerBoth, climbPastWith, climbPast, climbAtWith, climbAt, climbTurnWith, climbTurn, climbFrom}
 
 -- the rotations
 module _ (s : List ℕ) (cap d p0 p1 p2 s0 a b ra rank1 : ℕ) (h1 : p1 < cap) (hs : s0 < cap) (hd : d ≤ 1) where
@@ -25,23 +25,10 @@ module _ (s : List ℕ) (cap d p0 p1 p2 s0 a b ra rank1 : ℕ) (h1 : p1 < cap) (
       (only-trans _ _ _ _ (node-only _ _ _ _ _ _ _ _ hs hd) (relinked-only _ _ _ _ _)))
 
   pub twice-only : a < cap → TreeOnly s (turnTwice s cap d p0 p1 p2 s0 a b ra rank1) cap
-  unfolding turnTwice turnTwiceWith hung
+  unfolding turnTwice turnTwiceWith
   twice-only ha =
-      only-trans _ _ _ _ (back-only _ _ _ _)
-      (only-trans _ _ _ _ (back-only _ _ _ _)
-      (only-trans _ _ _ _ (node-only _ _ _ _ _ _ _ _ h1 hd)
-      (only-trans _ _ _ _ (node-only _ _ _ _ _ _ _ _ hs hd)
-      (only-trans _ _ _ _ (node-only _ _ _ _ _ _ _ _ ha hd) (relinked-only _ _ _ _ _)))))
-
--- a turn touches the tree alone, and its answer can be used
-abbrev pub Turned : List ℕ → ℕ → List ℕ × Climbed → Type 0
-Turned s cap x = TreeOnly s (x .0) cap × Standing cap (x .1)
-
-turned-done : (s t : List ℕ) (cap : ℕ) → TreeOnly s t cap → Turned s cap (t, Done)
-turned-done s t cap o = (o, tt)
-
-turned-bad : (s : List ℕ) (cap : ℕ) → Turned s cap (s, NotSound)
-turned-bad s cap = (only-refl s cap, tt)
+      only-trans _ _ _ _ (spread-only _ _ _ _ _ _ _ _ _ _ _ h1 hs hd)
+      (only-trans _ _ _ _ (node-only _ _ _ _ _ _ _ _ ha hd) (relinked-only _ _ _ _ _))
 
 pub up-stands : (s : List ℕ) (cap p1 : ℕ) → Standing cap (goUp s cap p1)
 unfolding goUp goUpTo
@@ -89,13 +76,6 @@ module _ (s : List ℕ) (cap d p0 p1 : ℕ) (h1 : p1 < cap) (hd : d ≤ 1) where
 pub turn-only : (s : List ℕ) (cap p1 d : ℕ) → p1 < cap → d ≤ 1 → Turned s cap (climbTurn s cap p1 d)
 unfolding climbTurn
 turn-only s cap p1 d h1 hd = turn-with s cap d _ p1 h1 hd _ _ _
-
--- by a turn's answer: `go` is the climb from there on
-pub on-only : (s t : List ℕ) (cap : ℕ) (a : Climbed) (go : ℕ → ℕ → List ℕ × Bool) → TreeOnly s t cap → Standing cap a
-    → ((p d : ℕ) → p < cap → d ≤ 1 → TreeOnly t (go p d .0) cap) → TreeOnly s (onClimbed a go t .0) cap
-on-only s t cap (Up p d) go o i f = only-trans s t _ cap o (f p d (i .0) (i .1))
-on-only s t cap Done go o i f = o
-on-only s t cap NotSound go o i f = o
 
 pub climb-only : (fuel : ℕ) (s : List ℕ) (cap p1 d : ℕ) → p1 < cap → d ≤ 1 → TreeOnly s (climbFrom fuel s cap p1 d .0) cap
 unfolding climbFrom

@@ -2,16 +2,17 @@
 -- Document 01: "While n1 is three above n0 with sibling s0: s0 two below n1, lower n1 by one and climb; else with a and b the inner and
 -- outer children of s0: b one below s0, rotate s0 up to n1's old rank, and n1 to a's rank plus 1; both two below s0, lower n1 and s0 and
 -- climb; else a rises to n1's old rank, n1 and s0 get a's old rank. A rotation ends the climb."
-use Prim.Native.Nat.{ℕ, zero, suc, _+_, _-_, _≤_, _<_}
-use mathlib.Core.Bool.{Bool, true, false}
+use Prim.Native.Nat.{ℕ, zero, suc, _+_, _-_}
+use mathlib.Core.Bool.{Bool, false}
 use mathlib.Core.List.{List}
 use lib.Dec.{ltb, leb, eqb}
 use Rattle.arena.specs.Branch.{ifte}
 use Rattle.arena.specs.Words.{field, put, LEFT, RIGHT, RANK, BACK}
+use Rattle.tree.specs.Climb.{onClimbed}
 use Rattle.tree.specs.Links.{rankOf, sideOf}
+use Rattle.tree.specs.declared.Climbed.{Climbed}
+use Rattle.tree.specs.declared.Climbed.the-variants.{Done, Up, NotSound}
 use Rattle.lower.specs.Turns.{turnOnce, turnTwice}
-use Rattle.lower.specs.declared.climbing.Climbed.{Climbed}
-use Rattle.lower.specs.declared.climbing.Climbed.the-variants.{Done, Up, NotSound}
 
 -- where the climb goes on above p1, by the back link p2 of p1
 unfoldable pub goUpTo : List ℕ → ℕ → ℕ → ℕ → Climbed
@@ -19,12 +20,6 @@ goUpTo s cap p1 p2 = ifte (ltb p2 cap) (Up p2 (sideOf s cap p2 p1)) Done
 
 unfoldable pub goUp : List ℕ → ℕ → ℕ → Climbed
 goUp s cap p1 = goUpTo s cap p1 (field s cap p1 BACK)
-
--- what the next turn asks of the answer: a node of the store and a side
-abbrev pub Standing : ℕ → Climbed → Type 0
-Standing cap (Up p d) = (p < cap) × (d ≤ 1)
-Standing cap Done = Unit {0}
-Standing cap NotSound = Unit {0}
 
 -- the store, and where the climb goes on above p1 in it
 unfoldable pub onward : List ℕ → ℕ → ℕ → List ℕ × Climbed
@@ -72,12 +67,6 @@ climbTurnWith s cap p1 d p0 s0 rank1 rank0 =
 unfoldable pub climbTurn : List ℕ → ℕ → ℕ → ℕ → List ℕ × Climbed
 climbTurn s cap p1 d =
     climbTurnWith s cap p1 d (field s cap p1 (LEFT + d)) (field s cap p1 (RIGHT - d)) (field s cap p1 RANK) (rankOf s cap (field s cap p1 (LEFT + d)))
-
--- what the loop does with a turn's answer: go on, or leave
-abbrev pub onClimbed : Climbed → (ℕ → ℕ → List ℕ × Bool) → List ℕ → List ℕ × Bool
-onClimbed (Up p d) go s = go p d
-onClimbed Done go s = (s, true)
-onClimbed NotSound go s = (s, false)
 
 -- the climb at n1 with so many turns left
 unfoldable pub climbFrom : ℕ → List ℕ → ℕ → ℕ → ℕ → List ℕ × Bool

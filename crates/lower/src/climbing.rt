@@ -4,20 +4,15 @@
 ghost use mathlib.Core.Path.{_≡_};
 ghost use Prim.Native.Nat.{_<_, _≤_};
 ghost use Rattle.arena.specs.Words.{Room};
-ghost use Rattle.lower.specs.Climb.{goUp, Standing, lowerOne, lowerBoth, climbPast, climbAt, climbTurn, climbFrom};
+ghost use Rattle.tree.specs.Climb.{Standing};
+ghost use Rattle.lower.specs.Climb.{goUp, lowerOne, lowerBoth, climbPast, climbAt, climbTurn, climbFrom};
 use crate::turns;
 use arena::words;
 use arena::words::BACK;
 use arena::words::LEFT;
 use arena::words::RANK;
 use arena::words::RIGHT;
-
-// After a turn: the ranks fit from here on, or the climb goes on at a node whose child on that side lost a rank.
-pub enum Climbed {
-    Done,
-    Up(u64, u64),
-    NotSound,
-}
+use tree::Climbed;
 
 // One up from p1, which lost a rank.
 fn go_up(s: &[u64], cap: u64, p1: u64) -> Climbed

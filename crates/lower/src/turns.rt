@@ -4,7 +4,7 @@
 ghost use mathlib.Core.Path.{_≡_};
 ghost use Prim.Native.Nat.{_<_, _≤_};
 ghost use Rattle.arena.specs.Words.{Room};
-ghost use Rattle.lower.specs.Turns.{turnOnce, hung, turnTwice};
+ghost use Rattle.lower.specs.Turns.{turnOnce, turnTwice};
 use arena::words;
 use arena::words::LEFT;
 use arena::words::RIGHT;
@@ -36,32 +36,6 @@ pub fn turn_once(
     tree::relink(s, cap, p2, p1, s0);
 }
 
-// n1 and s0 under a: they part its children c and e between them, and get its rank.
-fn hang(
-    s: &mut [u64],
-    cap: u64,
-    d: u64,
-    p0: u64,
-    p1: u64,
-    s0: u64,
-    a: u64,
-    b: u64,
-    c: u64,
-    e: u64,
-    ra: u64,
-)
-    requires { ⌜ Room (now s) cap ⌝ }
-    requires { ⌜ d ≤ 1 ⌝ }
-    requires { ⌜ p1 < cap ⌝ }
-    requires { ⌜ s0 < cap ⌝ }
-    ensures { λ _. ⌜ now (s .exit) ≡ hung (now (s .entry)) cap d p0 p1 s0 a b c e ra ⌝ }
-{
-    tree::put_back(s, cap, c, p1);
-    tree::put_back(s, cap, e, s0);
-    tree::put_node(s, cap, d, p1, a, p0, c, ra);
-    tree::put_node(s, cap, d, s0, a, e, b, ra);
-}
-
 // "a rises to n1's old rank, n1 and s0 get a's old rank."
 pub fn turn_twice(
     s: &mut [u64],
@@ -85,7 +59,7 @@ pub fn turn_twice(
 {
     let c = words::field(s, cap, a, LEFT + d);
     let e = words::field(s, cap, a, RIGHT - d);
-    hang(s, cap, d, p0, p1, s0, a, b, c, e, ra);
+    tree::spread(s, cap, d, a, p1, s0, p0, c, e, b, ra);
     tree::put_node(s, cap, d, a, p2, p1, s0, rank1);
     tree::relink(s, cap, p2, p1, a);
 }

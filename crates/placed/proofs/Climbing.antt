@@ -11,8 +11,8 @@ use Rattle.handle.specs.Numbers.{noSlot}
 use Rattle.arena.specs.Words.{Room, put, RANK}
 use Rattle.arena.proofs.Laws.{length-put}
 use Rattle.tree.specs.Links.{sideOf}
+use Rattle.tree.specs.declared.Climbed.the-variants.{Done, Up}
 use Rattle.rebalance.specs.Ranks.{budget, raisedUp, fixTurn, climbFrom}
-use Rattle.rebalance.specs.declared.ranks.Fixed.the-variants.{Done, Up}
 use Rattle.rebalance.proofs.Fixes.{raise-up, raise-done}
 use Rattle.wavl.specs.Entry.{Entry}
 use Rattle.wavl.specs.Tree.{Side, Tree, node, rank}

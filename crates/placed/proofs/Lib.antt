@@ -12,8 +12,5 @@ pub mod Plans
 pub mod Preparing
 pub mod Neighbours
 pub mod Manual
-pub mod Keeping
-pub mod KeptRanks
-pub mod KeptPlaces
 pub mod Theorems
 pub mod OneAnswer

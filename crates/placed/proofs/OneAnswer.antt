@@ -1,28 +1,22 @@
--- No second answer and no second store meet an insertion's promise, and a refusal changes no word.
--- A reader may rely on: no-second, for every store that holds a queue; refused-same and its three kinds.
+-- No second answer and no second store meet an insertion's promise, though it speaks of document 01's queue and of no word within it.
+-- A reader may rely on: no-second, for every store that holds a queue. It is an end in itself: nothing is built on it.
 use Prim.Native.Nat.{ℕ, zero, suc}
 use mathlib.Core.Path.{_≡_, refl, sym, ap, _∙_}
 use mathlib.Core.List.{List}
 use native.Mathlib.Omega.{arith}
 use lib.Dec.{lit<}
-use lib.IntN.{ℤ}
 use Rattle.handle.specs.Numbers.{refusalNumber}
 use Rattle.handle.specs.declared.Handle.{Handle}
-use Rattle.handle.specs.declared.Side.{Side}
 use Rattle.handle.specs.declared.Refusal.{Refusal}
 use Rattle.handle.specs.declared.Refusal.the-variants.{NotWithinCapacity, FailedOrdRequirement, InvalidPtr, BadLayout, NotSound, BadTime}
-use Rattle.arena.specs.Keys.{stored}
 use Rattle.arena.specs.Words.{CAPACITY}
-use Rattle.insert.specs.Place.{insertNormal, insertEmpty, insertManual}
 use Rattle.insert.specs.declared.place.Inserted as I
 use Rattle.rules.specs.Queue.{Queue}
 use Rattle.rules.specs.Answers.{Inserted}
-use Rattle.rules.proofs.Unchanged.{normal-unchanged, empty-unchanged, manual-unchanged}
 use Rattle.holds.specs.Handles.{plain}
 use Rattle.holds.specs.Holds.{Holds}
 use Rattle.holds.proofs.SameStore.{same-store}
-use Rattle.placed.specs.Meaning.{insertedMeans, sideMeans, Inserts}
-use Rattle.placed.proofs.Theorems.{normal-means, empty-means, manual-means}
+use Rattle.placed.specs.Meaning.{insertedMeans, Inserts}
 
 -- document 01's numbers tell the refusals apart
 refusalOf : ℕ → Refusal
@@ -68,7 +62,7 @@ module _ {s : List ℕ} {q : Queue} (k : Holds s q) where
   cap = q .capacity
 
   same-capacity : (r : List ℕ × I.Inserted) (m : Inserted × Queue) → Inserts s cap r m → m .1 .capacity ≡ cap
-  same-capacity r m a = sym (a .holds .header .passes .capacity) ∙ a .keeps .heads CAPACITY (lit< tt) (λ z. omega arith) ∙ k .header .passes .capacity
+  same-capacity r m a = sym (a .holds .header .passes .capacity) ∙ a .keeps .heads CAPACITY (lit< tt) (λ z. omega arith) (λ z. omega arith) (λ z. omega arith) (λ z. omega arith) ∙ k .header .passes .capacity
 
   -- the promise has one answer and one store
   pub no-second : (r t : List ℕ × I.Inserted) (m : Inserted × Queue) → Inserts s cap r m → Inserts s cap t m → r ≡ t
@@ -77,23 +71,3 @@ module _ {s : List ℕ} {q : Queue} (k : Holds s q) where
       let p : r .0 ≡ t .0 = same-store (a .holds) (b .holds) (a .keeps .long ∙ sym (b .keeps .long)) (rw c (λ j l. a .keeps .rest j l ∙ sym (b .keeps .rest j l))) in
       let e : r .1 ≡ t .1 = means-one (r .1) (t .1) (a .answer ∙ sym (b .answer)) in
       λ i. (p i, e i)
-
-  -- where the definition's queue is the one before, no word changes
-  pub refused-same : (r : List ℕ × I.Inserted) (m : Inserted × Queue) → Inserts s cap r m → m .1 ≡ q → r .0 ≡ s
-  refused-same r m a e = same-store (rw e at (a .holds)) k (a .keeps .long) (a .keeps .rest)
-
-  module _ (key : ℤ) (value : ℕ) (n : Refusal) where
-    pub normal-refused : insertNormal s cap key value .1 ≡ I.the-variants.Refused n → insertNormal s cap key value .0 ≡ s
-    normal-refused e =
-        let a = normal-means k key value in
-        refused-same _ _ a (normal-unchanged (stored key) q value (refusalNumber n) (sym (a .answer) ∙ ap insertedMeans e))
-
-    pub empty-refused : insertEmpty s cap key value .1 ≡ I.the-variants.Refused n → insertEmpty s cap key value .0 ≡ s
-    empty-refused e =
-        let a = empty-means k key value in
-        refused-same _ _ a (empty-unchanged (stored key) q value (refusalNumber n) (sym (a .answer) ∙ ap insertedMeans e))
-
-    pub manual-refused : (h : Handle) (side : Side) → insertManual s cap h side key value .1 ≡ I.the-variants.Refused n → insertManual s cap h side key value .0 ≡ s
-    manual-refused h side e =
-        let a = manual-means k key h side value in
-        refused-same _ _ a (manual-unchanged (stored key) q (plain h) (sideMeans side) value (refusalNumber n) (sym (a .answer) ∙ ap insertedMeans e))

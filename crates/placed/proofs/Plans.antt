@@ -8,6 +8,7 @@ use lib.IntN.{ℤ}
 use lib.ListN.{length}
 use Rattle.handle.specs.declared.Refusal as R
 use Rattle.arena.specs.Keys.{stored}
+use Rattle.insert.specs.Kept.{Within}
 use Rattle.insert.specs.Place.{applied}
 use Rattle.insert.specs.Ahead.{nextNew, lookedAhead}
 use Rattle.insert.specs.declared.kinds.Prepared.{Prepared}
@@ -25,7 +26,6 @@ use Rattle.holds.specs.Holds.{Holds}
 use Rattle.holds.proofs.Parts.{sound-of, words-of, separate-of, used-few, free-low}
 use Rattle.holds.proofs.Live.{live-entry, spot-in}
 use Rattle.holds.proofs.Stack.{peek-none, peek-first}
-use Rattle.placed.specs.Keeps.{Keeps}
 use Rattle.placed.specs.Meaning.{aheadMeans, Inserts}
 use Rattle.placed.proofs.Answers.{Answers}
 use Rattle.placed.proofs.Added.{adds}
@@ -74,7 +74,7 @@ module _ {s : List ℕ} {q : Queue} (k : Holds s q) where
   carry key value fail f d = refuses k R.the-variants.FailedOrdRequirement
 
   pub carries-out : (key : ℤ) (value : ℕ) (pr : Prepared) (m : ℕ → Inserted × Queue) → Prepares q (stored key) pr m → Sound (m value .1)
-      → Keeps s (applied s cap pr key value .0) cap → Inserts s cap (applied s cap pr key value) (m value)
+      → Within s (applied s cap pr key value .0) cap → Inserts s cap (applied s cap pr key value) (m value)
   carries-out key value pr m y d c =
       inserts d (rw (y .words-so, y .queue-so value) (carry key value (y .plan) (y .fits) (rw (y .queue-so value) at d))) c
 

@@ -7,7 +7,8 @@ use native.Mathlib.Omega.{arith}
 use Rattle.handle.specs.Numbers.{noSlot}
 use lib.Dec.{lit<}
 use Rattle.arena.specs.Words.{Room, field, put, LEFT, RANK, BACK}
-use Rattle.rebalance.specs.Turns.{liftedOne, turnedSame, spreadWith, spreadBelow, turnedAcross}
+use Rattle.tree.specs.Links.{spreadWith}
+use Rattle.rebalance.specs.Turns.{liftedOne, turnedSame, spreadBelow, turnedAcross}
 use Rattle.wavl.specs.Entry.{Entry, slots}
 use Rattle.wavl.specs.Tree.{Side, left, right, Tree, tip, fork, node, rank, inorder}
 use Rattle.wavl.specs.Way.{Way, plug}

@@ -11,6 +11,7 @@ use Rattle.arena.specs.Keys.{stored}
 use Rattle.insert.specs.Kinds.{preparedNormal, preparedEmpty, preparedManual}
 use Rattle.insert.specs.Place.{insertNormal, insertEmpty, insertManual}
 use Rattle.insert.specs.Ahead.{aheadNormal, aheadEmpty, aheadManual}
+use Rattle.insert.proofs.Laws.{insert-normal-within, insert-empty-within, insert-manual-within}
 use Rattle.rules.specs.Queue.{Queue}
 use Rattle.rules.specs.Insert as Rules
 use Rattle.rules.proofs.Insertions.{normal-sound, empty-sound, manual-sound}
@@ -21,7 +22,6 @@ use Rattle.placed.specs.Meaning.{aheadMeans, sideMeans, Inserts}
 use Rattle.placed.proofs.Plans.{carries-out, foretells}
 use Rattle.placed.proofs.Preparing.{normal-prepares, empty-prepares}
 use Rattle.placed.proofs.Manual.{manual-prepares}
-use Rattle.placed.proofs.KeptPlaces.{normal-keeps, empty-keeps, manual-keeps}
 
 module _ {s : List ℕ} {q : Queue} (k : Holds s q) (key : ℤ) where
   abbrev cap : ℕ
@@ -32,7 +32,7 @@ module _ {s : List ℕ} {q : Queue} (k : Holds s q) (key : ℤ) where
   unfolding insertNormal
   normal-means value =
       carries-out k key value (preparedNormal s cap (stored key)) _ (normal-prepares k (stored key)) (normal-sound (stored key) value q (sound-of k))
-      (normal-keeps s cap key value)
+      (insert-normal-within s cap key value)
 
   pub normal-ahead : aheadMeans (aheadNormal s cap key) ≡ Rules.aheadNormal (stored key) q
   unfolding aheadNormal Rules.aheadNormal
@@ -43,7 +43,7 @@ module _ {s : List ℕ} {q : Queue} (k : Holds s q) (key : ℤ) where
   unfolding insertEmpty
   empty-means value =
       carries-out k key value (preparedEmpty s) _ (empty-prepares k (stored key)) (empty-sound (stored key) value q (sound-of k))
-      (empty-keeps s cap key value)
+      (insert-empty-within s cap key value)
 
   pub empty-ahead : aheadMeans (aheadEmpty s cap) ≡ Rules.aheadEmpty (stored key) q
   unfolding aheadEmpty Rules.aheadEmpty
@@ -55,7 +55,7 @@ module _ {s : List ℕ} {q : Queue} (k : Holds s q) (key : ℤ) where
     unfolding insertManual
     manual-means value =
         carries-out k key value (preparedManual s cap h side (stored key)) _ (manual-prepares k (stored key) h side) (manual-sound (stored key) value q (sound-of k) (plain h) (sideMeans side))
-        (manual-keeps s cap key value h side)
+        (insert-manual-within s cap key value h side)
 
     pub manual-ahead : aheadMeans (aheadManual s cap h side key) ≡ Rules.aheadManual (plain h) (sideMeans side) (stored key) q
     unfolding aheadManual Rules.aheadManual

@@ -7,9 +7,9 @@ use native.Mathlib.Omega.{arith}
 use borrow.Author.Tests.{lt-ltb, le-ltb, lt-leb, eq-eqb, ne-eqb}
 use Rattle.handle.specs.Numbers.{noSlot}
 use Rattle.tree.specs.Links.{rankOf, sideOf}
+use Rattle.tree.specs.declared.Climbed.{Climbed}
+use Rattle.tree.specs.declared.Climbed.the-variants.{Done}
 use Rattle.rebalance.specs.Ranks.{budget, raisedUp, fixWith, fixTurn}
-use Rattle.rebalance.specs.declared.ranks.Fixed.{Fixed}
-use Rattle.rebalance.specs.declared.ranks.Fixed.the-variants.{Done}
 use Rattle.rebalance.proofs.Fixes.{fix-reads, fix-same, fix-across}
 use Rattle.wavl.specs.Entry.{Entry}
 use Rattle.wavl.specs.Tree.{Side, left, right, Tree, tip, fork, node, rank}
@@ -47,10 +47,10 @@ side-at s cap back right a x r b few D f l = rw (l .0 .far-is, eq-eqb (topSlot a
 
 module _ (s : List ℕ) (cap : ℕ) (few : cap ≤ noSlot) (d e : Side) (n0 : Tree) (e1 : Entry) (r1 : ℕ) (s0 : Tree) (e2 : Entry) (r2 : ℕ) (s1 : Tree) (p : Way)
     (T : TreeWords s cap (plug (node e (node d n0 e1 r1 s0) e2 r2 s1) p)) where
-  abbrev turn : List ℕ × Fixed
+  abbrev turn : List ℕ × Climbed
   turn = fixTurn s cap (topSlot n0) (e1 .slot) (e2 .slot) (number d) (number e)
 
-  reads : (x : List ℕ × Fixed) → x ≡ fixWith s cap (topSlot n0) (e1 .slot) (e2 .slot) (number d) (number e) r1 r2 (parent p) (topSlot s1) (rank s1) → x ≡ turn
+  reads : (x : List ℕ × Climbed) → x ≡ fixWith s cap (topSlot n0) (e1 .slot) (e2 .slot) (number d) (number e) r1 r2 (parent p) (topSlot s1) (rank s1) → x ≡ turn
   reads x q =
       let n1 = node d n0 e1 r1 s0 in
       let P = unplugged s cap p (node e n1 e2 r2 s1) T in
@@ -72,7 +72,7 @@ module _ (s : List ℕ) (cap : ℕ) (few : cap ≤ noSlot) (d e : Side) (n0 : Tr
       → (turnedBy d e s cap (topSlot n0) (e1 .slot) (e2 .slot) (parent p) (topSlot s1), Done) ≡ turn
   turn-turns over low low₁ h = reads (turnedBy d e s cap (topSlot n0) (e1 .slot) (e2 .slot) (parent p) (topSlot s1), Done) (by d e)
     where
-      by : (d e : Side) → _≡_ {A = List ℕ × Fixed} (turnedBy d e s cap (topSlot n0) (e1 .slot) (e2 .slot) (parent p) (topSlot s1), Done)
+      by : (d e : Side) → _≡_ {A = List ℕ × Climbed} (turnedBy d e s cap (topSlot n0) (e1 .slot) (e2 .slot) (parent p) (topSlot s1), Done)
           (fixWith s cap (topSlot n0) (e1 .slot) (e2 .slot) (number d) (number e) r1 r2 (parent p) (topSlot s1) (rank s1))
       by left left = fix-same s cap (topSlot n0) (e1 .slot) (e2 .slot) 0 0 r1 r2 (parent p) (topSlot s1) (rank s1) over low low₁ h _ refl refl
       by right right = fix-same s cap (topSlot n0) (e1 .slot) (e2 .slot) 1 1 r1 r2 (parent p) (topSlot s1) (rank s1) over low low₁ h _ refl refl

@@ -5,6 +5,7 @@ use mathlib.Core.Path.{_≡_}
 use mathlib.Core.List.{List}
 use Rattle.handle.specs.Numbers.{refusalNumber}
 use Rattle.handle.specs.declared.Side as S
+use Rattle.insert.specs.Kept.{Within}
 use Rattle.insert.specs.declared.place.Inserted as I
 use Rattle.insert.specs.declared.ahead.Ahead as A
 use Rattle.rules.specs.Queue.{Queue}
@@ -12,7 +13,6 @@ use Rattle.rules.specs.Answers.{Inserted, new, replacing, notInserted, Ahead, w
 use Rattle.rules.specs.Insert.{Where, less, equal, greater}
 use Rattle.holds.specs.Handles.{plain}
 use Rattle.holds.specs.Holds.{Holds}
-use Rattle.placed.specs.Keeps.{Keeps}
 
 -- "Any insertion answers New or Replacing with the handle, and the old value if replacing."
 abbrev pub insertedMeans : I.Inserted → Inserted
@@ -32,9 +32,9 @@ sideMeans S.the-variants.Less = less
 sideMeans S.the-variants.Equal = equal
 sideMeans S.the-variants.Greater = greater
 
--- the whole promise of an insertion with a store s that holds a queue: the definition's answer, the definition's queue, and of every
--- number past those that the capacity needs, and of the length, that it stays
+-- the whole promise of an insertion with a store s that holds a queue: the definition's answer, the definition's queue, and what every
+-- insertion leaves alone: the length and the numbers past those that the capacity needs among it
 pub record Inserts (s : List ℕ) (cap : ℕ) (r : List ℕ × I.Inserted) (m : Inserted × Queue) : Type 0 where
   pub answer : insertedMeans (r .1) ≡ m .0
   pub holds : Holds (r .0) (m .1)
-  pub keeps : Keeps s (r .0) cap
+  pub keeps : Within s (r .0) cap

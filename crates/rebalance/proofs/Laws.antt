@@ -1,6 +1,6 @@
 -- What rebalancing leaves alone, for proofs on sound stores and for the promises on any store: all but the tree.
 use Prim.Native.Nat.{ℕ, zero, suc, _+_, _<_, _≤_}
-use mathlib.Core.Bool.{Bool, true}
+use mathlib.Core.Bool.{true}
 use mathlib.Core.List.{List}
 use native.Mathlib.Omega.{arith}
 use lib.Dec.{ltb, leb, eqb}
@@ -8,11 +8,11 @@ use borrow.Author.Tests.{ltb-true, leb-false}
 use Rattle.arena.specs.Words.{field, put, RANK, BACK}
 use Rattle.tree.specs.Links.{sideOf}
 use Rattle.tree.specs.Kept.{TreeOnly}
-use Rattle.rebalance.specs.Turns.{liftedOne, turnedSame, spreadWith, spreadBelow, turnedAcross}
-use Rattle.rebalance.specs.Ranks.{budget, FixedIn, above, raisedUp, fixWith, fixTurn, onFixed, climbFrom, climbedTo, climbedAbove, rebalanced}
-use Rattle.rebalance.specs.declared.ranks.Fixed.{Fixed}
-use Rattle.rebalance.specs.declared.ranks.Fixed.the-variants.{Done, Up, NotSound}
-use Rattle.tree.proofs.Keeps.{either, only-refl, only-trans, only-put, side-small, back-only, relinked-only, node-only}
+use Rattle.tree.specs.declared.Climbed.the-variants.{Done, Up}
+use Rattle.tree.proofs.Climb.{Turned, turned-done, turned-bad, Settled, on-only}
+use Rattle.rebalance.specs.Turns.{liftedOne, turnedSame, spreadBelow, turnedAcross}
+use Rattle.rebalance.specs.Ranks.{budget, above, raisedUp, fixWith, fixTurn, climbFrom, climbedTo, climbedAbove, rebalanced}
+use Rattle.tree.proofs.Keeps.{either, only-refl, only-trans, only-put, side-small, back-only, relinked-only, node-only, spread-only}
 
 module _ (s : List ℕ) (cap d p0 p1 p2 p3 : ℕ) (h0 : p0 < cap) (h1 : p1 < cap) (h2 : p2 < cap) (hd : d ≤ 1) where
   pub same-only : (s1 : ℕ) → TreeOnly s (turnedSame s cap d p0 p1 p2 p3 s1) cap
@@ -24,17 +24,10 @@ module _ (s : List ℕ) (cap d p0 p1 p2 p3 : ℕ) (h0 : p0 < cap) (h1 : p1 < cap
       (only-trans _ _ _ _ (node-only _ _ _ _ _ _ _ _ h2 hd) (relinked-only _ _ _ _ _))))
 
   pub across-only : (s1 : ℕ) → TreeOnly s (turnedAcross s cap d p0 p1 p2 p3 s1) cap
-  unfolding turnedAcross spreadBelow spreadWith
+  unfolding turnedAcross spreadBelow
   across-only s1 =
-      only-trans _ _ _ _ (back-only _ _ _ _)
-      (only-trans _ _ _ _ (back-only _ _ _ _)
-      (only-trans _ _ _ _ (node-only _ _ _ _ _ _ _ _ h1 hd)
-      (only-trans _ _ _ _ (node-only _ _ _ _ _ _ _ _ h2 hd)
-      (only-trans _ _ _ _ (node-only _ _ _ _ _ _ _ _ h0 hd) (relinked-only _ _ _ _ _)))))
-
--- a turn touches the tree alone, and its answer can be used
-abbrev pub Turned : List ℕ → ℕ → List ℕ × Fixed → Type 0
-Turned s cap x = TreeOnly s (x .0) cap × FixedIn cap (x .1)
+      only-trans _ _ _ _ (spread-only _ _ _ _ _ _ _ _ _ _ _ h1 h2 hd)
+      (only-trans _ _ _ _ (node-only _ _ _ _ _ _ _ _ h0 hd) (relinked-only _ _ _ _ _))
 
 pub raised-only : (s : List ℕ) (cap p2 p3 r1 : ℕ) → p2 < cap → Turned s cap (raisedUp s cap p2 p3 r1)
 unfolding raisedUp above
@@ -42,12 +35,6 @@ raised-only s cap p2 p3 r1 h2 =
     let t = put s cap p2 RANK (r1 + 1) in
     let o : TreeOnly s t cap = only-put s cap p2 RANK (r1 + 1) h2 (omega arith) (omega arith) in
     either (Turned s cap) (ltb p3 cap) (t, Up p3 (sideOf t cap p3 p2)) (t, Done) (λ e. (o, (ltb-true p3 cap e, side-small _ _ _ _))) (λ e. (o, tt))
-
-turned-done : (s t : List ℕ) (cap : ℕ) → TreeOnly s t cap → Turned s cap (t, Done)
-turned-done s t cap o = (o, tt)
-
-turned-bad : (s : List ℕ) (cap : ℕ) → Turned s cap (s, NotSound)
-turned-bad s cap = (only-refl s cap, tt)
 
 module _ (s : List ℕ) (cap p0 p1 p2 d01 d12 : ℕ) (h0 : p0 < cap) (h1 : p1 < cap) (h2 : p2 < cap) (e1 : d01 ≤ 1) (e2 : d12 ≤ 1) where
   with-only : (r1 r2 p3 s1 rs1 : ℕ) → Turned s cap (fixWith s cap p0 p1 p2 d01 d12 r1 r2 p3 s1 rs1)
@@ -64,13 +51,6 @@ module _ (s : List ℕ) (cap p0 p1 p2 d01 d12 : ℕ) (h0 : p0 < cap) (h1 : p1 < 
   unfolding fixTurn
   fix-only = with-only _ _ _ _ _
 
--- by a turn's answer: `go` is the climb from there on
-on-only : (s t : List ℕ) (cap : ℕ) (a : Fixed) (go : ℕ → ℕ → List ℕ × Bool) → TreeOnly s t cap → FixedIn cap a
-    → ((p d : ℕ) → p < cap → d ≤ 1 → TreeOnly t (go p d .0) cap) → TreeOnly s (onFixed a go t .0) cap
-on-only s t cap (Up p d) go o i f = only-trans s t _ cap o (f p d (i .0) (i .1))
-on-only s t cap Done go o i f = o
-on-only s t cap NotSound go o i f = o
-
 pub climb-only : (fuel : ℕ) (s : List ℕ) (cap p0 p1 p2 d01 d12 : ℕ) → p0 < cap → p1 < cap → p2 < cap → d01 ≤ 1 → d12 ≤ 1
     → TreeOnly s (climbFrom fuel s cap p0 p1 p2 d01 d12 .0) cap
 unfolding climbFrom
@@ -80,26 +60,22 @@ climb-only (suc fuel) s cap p0 p1 p2 d01 d12 h0 h1 h2 e1 e2 =
     let f = fix-only s cap p0 p1 p2 d01 d12 h0 h1 h2 e1 e2 in
     on-only s (x .0) cap (x .1) _ (f .0) (f .1) (λ p3 d h3 e3. climb-only fuel (x .0) cap p1 p2 p3 d12 d h1 h2 h3 e2 e3)
 
--- a climb touches the tree alone
-abbrev pub Climbed : List ℕ → ℕ → List ℕ × Bool → Type 0
-Climbed s cap x = TreeOnly s (x .0) cap
-
 module _ (s : List ℕ) (cap p0 p1 : ℕ) (h0 : p0 < cap) (h1 : p1 < cap) where
-  to-only : (p2 : ℕ) → Climbed s cap (climbedTo s cap p0 p1 p2)
+  to-only : (p2 : ℕ) → Settled s cap (climbedTo s cap p0 p1 p2)
   unfolding climbedTo
   to-only p2 =
       let d01 = sideOf s cap p1 p0 in
       let d12 = sideOf s cap p2 p1 in
-      either (Climbed s cap) (leb cap p2) (s, true) (climbFrom budget s cap p0 p1 p2 d01 d12) (λ e. only-refl s cap)
+      either (Settled s cap) (leb cap p2) (s, true) (climbFrom budget s cap p0 p1 p2 d01 d12) (λ e. only-refl s cap)
       (λ e. climb-only budget s cap p0 p1 p2 d01 d12 h0 h1 (leb-false cap p2 e) (side-small s cap p1 p0) (side-small s cap p2 p1))
 
-  above-only : Climbed s cap (climbedAbove s cap p0 p1)
+  above-only : Settled s cap (climbedAbove s cap p0 p1)
   unfolding climbedAbove
   above-only = to-only (field s cap p1 BACK)
 
-pub rebalanced-only : (s : List ℕ) (cap p0 p1 : ℕ) → p0 < cap → p1 < cap → Climbed s cap (rebalanced s cap p0 p1)
+pub rebalanced-only : (s : List ℕ) (cap p0 p1 : ℕ) → p0 < cap → p1 < cap → Settled s cap (rebalanced s cap p0 p1)
 unfolding rebalanced
 rebalanced-only s cap p0 p1 h0 h1 =
     let t = put s cap p1 RANK 2 in
-    either (Climbed s cap) (eqb (field s cap p1 RANK) 2) (s, true) (climbedAbove t cap p0 p1) (λ e. only-refl s cap)
+    either (Settled s cap) (eqb (field s cap p1 RANK) 2) (s, true) (climbedAbove t cap p0 p1) (λ e. only-refl s cap)
     (λ e. only-trans s t _ cap (only-put s cap p1 RANK 2 h1 (omega arith) (omega arith)) (above-only t cap p0 p1 h0 h1))

@@ -1,4 +1,3 @@
 pub mod Climbs
 pub mod Fixes
 pub mod Laws
-pub mod Values

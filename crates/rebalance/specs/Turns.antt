@@ -4,7 +4,7 @@
 use Prim.Native.Nat.{ℕ, _+_, _-_}
 use mathlib.Core.List.{List}
 use Rattle.arena.specs.Words.{field, put, LEFT, RIGHT, RANK, BACK}
-use Rattle.tree.specs.Links.{withBack, withNode, relinked}
+use Rattle.tree.specs.Links.{withBack, withNode, relinked, spreadWith}
 
 -- n1 in the place of n2 below p3, n2 on its other side with s0 on the side d and s1 on the other one
 unfoldable pub liftedOne : List ℕ → ℕ → ℕ → ℕ → ℕ → ℕ → ℕ → ℕ → ℕ → List ℕ
@@ -14,14 +14,10 @@ liftedOne s cap d p1 p2 p3 s0 s1 rank0 =
 unfoldable pub turnedSame : List ℕ → ℕ → ℕ → ℕ → ℕ → ℕ → ℕ → ℕ → List ℕ
 turnedSame s cap d p0 p1 p2 p3 s1 = liftedOne s cap d p1 p2 p3 (field s cap p1 (RIGHT - d)) s1 (field s cap p0 RANK)
 
--- n1 and n2 as the children of n0: s0 and c below n1, e and s1 below n2
-unfoldable pub spreadWith : List ℕ → ℕ → ℕ → ℕ → ℕ → ℕ → ℕ → ℕ → ℕ → ℕ → ℕ → List ℕ
-spreadWith s cap d p0 p1 p2 s0 s1 c e rank0 =
-    withNode (withNode (withBack (withBack s cap c p1) cap e p2) cap d p1 p0 s0 c rank0) cap d p2 p0 e s1 rank0
-
+-- n1 and n2 as the children of n0, which hands its own children and its rank to them
 unfoldable pub spreadBelow : List ℕ → ℕ → ℕ → ℕ → ℕ → ℕ → ℕ → List ℕ
 spreadBelow s cap d p0 p1 p2 s1 =
-    spreadWith s cap d p0 p1 p2 (field s cap p1 (LEFT + d)) s1 (field s cap p0 (LEFT + d)) (field s cap p0 (RIGHT - d)) (field s cap p0 RANK)
+    spreadWith s cap d p0 p1 p2 (field s cap p1 (LEFT + d)) (field s cap p0 (LEFT + d)) (field s cap p0 (RIGHT - d)) s1 (field s cap p0 RANK)
 
 -- n0 in the place of n2 below p3, with n1 on the side d and n2 on the other one
 unfoldable pub turnedAcross : List ℕ → ℕ → ℕ → ℕ → ℕ → ℕ → ℕ → ℕ → List ℕ

@@ -4,42 +4,36 @@
 ghost use mathlib.Core.Path.{_≡_};
 ghost use Prim.Native.Nat.{_<_, _≤_};
 ghost use Rattle.arena.specs.Words.{Room};
-ghost use Rattle.rebalance.specs.Ranks.{budget, FixedIn, raisedUp, fixTurn, climbFrom, climbedAbove, rebalanced};
+ghost use Rattle.tree.specs.Climb.{Standing};
+ghost use Rattle.rebalance.specs.Ranks.{budget, raisedUp, fixTurn, climbFrom, climbedAbove, rebalanced};
 use crate::turns;
 use arena::words;
 use arena::words::BACK;
 use arena::words::RANK;
 use arena::words::RIGHT;
-
-// What one turn of the climb came to.
-pub enum Fixed {
-    Done,
-    // the next node above, and its side on which the climb stands
-    Up(u64, u64),
-    NotSound,
-}
+use tree::Climbed;
 
 // How far the climb goes, and a rank that it never meets: no sound tree is as high.
 pub const BUDGET: u64 = 64;
 
 // "raise n2 by one and climb": n2's rank becomes one more than n1's rank r1, and p3 above it is next.
-fn raise(s: &mut [u64], cap: u64, p2: u64, p3: u64, r1: u64) -> Fixed
+fn raise(s: &mut [u64], cap: u64, p2: u64, p3: u64, r1: u64) -> Climbed
     requires { ⌜ Room (now s) cap ⌝ }
     requires { ⌜ p2 < cap ⌝ }
     requires { ⌜ r1 < budget ⌝ }
     ensures { λ r. ⌜ (now (s .exit), r) ≡ raisedUp (now (s .entry)) cap p2 p3 r1 ⌝ }
-    ensures { λ r. ⌜ FixedIn cap r ⌝ }
+    ensures { λ r. ⌜ Standing cap r ⌝ }
 {
     words::put(s, cap, p2, RANK, r1 + 1);
     if p3 < cap {
         let d = tree::side_of(s, cap, p3, p2);
-        return Fixed::Up(p3, d);
+        return Climbed::Up(p3, d);
     }
-    Fixed::Done
+    Climbed::Done
 }
 
 // One turn: n0 under n1 on the side d01, n1 under n2 on the side d12.
-fn fix_turn(s: &mut [u64], cap: u64, p0: u64, p1: u64, p2: u64, d01: u64, d12: u64) -> Fixed
+fn fix_turn(s: &mut [u64], cap: u64, p0: u64, p1: u64, p2: u64, d01: u64, d12: u64) -> Climbed
     requires { ⌜ Room (now s) cap ⌝ }
     requires { ⌜ p0 < cap ⌝ }
     requires { ⌜ p1 < cap ⌝ }
@@ -47,7 +41,7 @@ fn fix_turn(s: &mut [u64], cap: u64, p0: u64, p1: u64, p2: u64, d01: u64, d12: u
     requires { ⌜ d01 ≤ 1 ⌝ }
     requires { ⌜ d12 ≤ 1 ⌝ }
     ensures { λ r. ⌜ (now (s .exit), r) ≡ fixTurn (now (s .entry)) cap p0 p1 p2 d01 d12 ⌝ }
-    ensures { λ r. ⌜ FixedIn cap r ⌝ }
+    ensures { λ r. ⌜ Standing cap r ⌝ }
 {
     let r1 = words::field(s, cap, p1, RANK);
     let r2 = words::field(s, cap, p2, RANK);
@@ -55,23 +49,23 @@ fn fix_turn(s: &mut [u64], cap: u64, p0: u64, p1: u64, p2: u64, d01: u64, d12: u
     let s1 = words::field(s, cap, p2, RIGHT - d12);
     let rs1 = tree::rank_of(s, cap, s1);
     if r1 < r2 {
-        return Fixed::Done;
+        return Climbed::Done;
     }
     if BUDGET <= r1 {
-        return Fixed::NotSound;
+        return Climbed::NotSound;
     }
     if BUDGET <= rs1 {
-        return Fixed::NotSound;
+        return Climbed::NotSound;
     }
     if rs1 + 1 == r2 {
         return raise(s, cap, p2, p3, r1);
     }
     if d01 == d12 {
         turns::turn_same(s, cap, d01, p0, p1, p2, p3, s1);
-        return Fixed::Done;
+        return Climbed::Done;
     }
     turns::turn_across(s, cap, d12, p0, p1, p2, p3, s1);
-    Fixed::Done
+    Climbed::Done
 }
 
 // The climb from three nodes, each the parent of the one before it. It is left by its label.
@@ -97,17 +91,17 @@ fn climb(s: &mut [u64], cap: u64, q0: u64, q1: u64, q2: u64, e01: u64, e12: u64)
         n += 1;
         let a = fix_turn(s, cap, p0, p1, p2, d01, d12);
         match a {
-            Fixed::Up(p3, d) => {
+            Climbed::Up(p3, d) => {
                 p0 = p1;
                 p1 = p2;
                 p2 = p3;
                 d01 = d12;
                 d12 = d;
             }
-            Fixed::Done => {
+            Climbed::Done => {
                 break 'climb true;
             }
-            Fixed::NotSound => {
+            Climbed::NotSound => {
                 break 'climb false;
             }
         }

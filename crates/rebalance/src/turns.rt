@@ -4,7 +4,7 @@
 ghost use mathlib.Core.Path.{_≡_};
 ghost use Prim.Native.Nat.{_<_, _≤_};
 ghost use Rattle.arena.specs.Words.{Room};
-ghost use Rattle.rebalance.specs.Turns.{liftedOne, turnedSame, spreadWith, spreadBelow, turnedAcross};
+ghost use Rattle.rebalance.specs.Turns.{liftedOne, turnedSame, spreadBelow, turnedAcross};
 use arena::words;
 use arena::words::BACK;
 use arena::words::LEFT;
@@ -50,33 +50,7 @@ pub fn turn_same(s: &mut [u64], cap: u64, d: u64, p0: u64, p1: u64, p2: u64, p3:
     lift_one(s, cap, d, p1, p2, p3, s0, s1, rank0);
 }
 
-// n1 and n2 become the children of n0: n1 keeps s0 and takes c, n2 takes e and keeps s1; both get the given rank.
-fn spread(
-    s: &mut [u64],
-    cap: u64,
-    d: u64,
-    p0: u64,
-    p1: u64,
-    p2: u64,
-    s0: u64,
-    s1: u64,
-    c: u64,
-    e: u64,
-    rank0: u64,
-)
-    requires { ⌜ Room (now s) cap ⌝ }
-    requires { ⌜ d ≤ 1 ⌝ }
-    requires { ⌜ p1 < cap ⌝ }
-    requires { ⌜ p2 < cap ⌝ }
-    ensures { λ _. ⌜ now (s .exit) ≡ spreadWith (now (s .entry)) cap d p0 p1 p2 s0 s1 c e rank0 ⌝ }
-{
-    tree::put_back(s, cap, c, p1);
-    tree::put_back(s, cap, e, p2);
-    tree::put_node(s, cap, d, p1, p0, s0, c, rank0);
-    tree::put_node(s, cap, d, p2, p0, e, s1, rank0);
-}
-
-// The same, with what hangs below n0 and n1 and the rank of n0 read from the store.
+// n1 and n2 become the children of n0: n1 keeps its child on the side d, n2 keeps s1, and they part the children of n0; both get its rank.
 fn spread_below(s: &mut [u64], cap: u64, d: u64, p0: u64, p1: u64, p2: u64, s1: u64)
     requires { ⌜ Room (now s) cap ⌝ }
     requires { ⌜ d ≤ 1 ⌝ }
@@ -89,7 +63,7 @@ fn spread_below(s: &mut [u64], cap: u64, d: u64, p0: u64, p1: u64, p2: u64, s1: 
     let e = words::field(s, cap, p0, RIGHT - d);
     let rank0 = words::field(s, cap, p0, RANK);
     let s0 = words::field(s, cap, p1, LEFT + d);
-    spread(s, cap, d, p0, p1, p2, s0, s1, c, e, rank0);
+    tree::spread(s, cap, d, p0, p1, p2, s0, c, e, s1, rank0);
 }
 
 // "edges alternating, n0 takes n2's place with n1's rank, and n1 and n2 get n0's old rank": d is the side of n1 under n2,

@@ -1,7 +1,7 @@
 -- What taking a node out and removing an entry leave alone, for proofs on sound stores and for the promises on any store.
 use Prim.Native.Nat.{ℕ, _-_, _<_, _≤_}
 use mathlib.Core.Path.{_≡_, refl, sym}
-use mathlib.Core.Bool.{Bool, true, false}
+use mathlib.Core.Bool.{true, false}
 use mathlib.Core.List.{List}
 use native.Mathlib.Omega.{arith}
 use lib.Dec.{ltb, leb, eqb}
@@ -19,15 +19,15 @@ use Rattle.tree.specs.Links.{sideOf}
 use Rattle.tree.specs.Kept.{TreeOnly}
 use Rattle.tree.proofs.Keeps.{either, only-refl, only-trans, side-small, back-only, child-only, relinked-only, node-only}
 use Rattle.lower.specs.Climb.{lowerOne}
-use Rattle.lower.proofs.Laws.{lower-only, on-only, climb-only}
+use Rattle.tree.proofs.Climb.{Settled, on-only}
+use Rattle.lower.proofs.Laws.{lower-only, climb-only}
 use Rattle.remove.specs.Lift.{sideUnder, hungUp, liftWith, liftOut, standing, replaced}
 use Rattle.remove.specs.Take.{isChildless, settleBare, settleAt, replacementOf, filledFrom, filledBy, closedFrom, takeOver, takeOut}
-use Rattle.remove.specs.Remove.{letGo, removeLive, removeBy, readBy}
+use Rattle.remove.specs.Remove.{letGo, removeLive, removeBy}
 use Rattle.remove.specs.Kept.{OthersKept}
 use Rattle.remove.specs.declared.lifting.Lifted.{Lifted}
 use Rattle.remove.specs.declared.removing.Removed.{Removed}
 use Rattle.remove.specs.declared.removing.Removed as D
-use Rattle.remove.specs.declared.reading.Reading as Q
 use Rattle.remove.proofs.Keeps.{kept-refl, kept-trans, tree-kept, chain-kept, blank-kept, pushed-kept}
 use Rattle.remove.proofs.RemoveReads.{live-low}
 
@@ -50,10 +50,6 @@ unfolding replaced standing
 replaced-only s cap i m hm =
     only-trans _ _ _ _ (node-only _ _ _ _ _ _ _ _ hm (omega arith))
     (only-trans _ _ _ _ (back-only _ _ _ _) (only-trans _ _ _ _ (back-only _ _ _ _) (relinked-only _ _ _ _ _)))
-
--- an answer that touched the tree alone
-abbrev pub Settled : List ℕ → ℕ → List ℕ × Bool → Type 0
-Settled s cap x = TreeOnly s (x .0) cap
 
 pub bare-only : (s : List ℕ) (cap q : ℕ) → q < cap → Settled s cap (settleBare s cap q)
 unfolding settleBare
@@ -130,7 +126,3 @@ module _ (s : List ℕ) (cap : ℕ) (h : Handle) where
   pub dead-refused : isLive s cap h ≡ false → removeBy s cap h ≡ (s, D.the-variants.Refused InvalidPtr)
   unfolding removeBy
   dead-refused e = rw e
-
-  pub dead-unread : isLive s cap h ≡ false → readBy s cap h ≡ Q.the-variants.Refused InvalidPtr
-  unfolding readBy
-  dead-unread e = rw e

@@ -7,9 +7,9 @@ use lib.Dec.{eqb}
 use borrow.Author.Tests.{eq-eqb, ne-eqb, le-leb, lt-leb}
 use Rattle.handle.specs.Numbers.{noSlot}
 use Rattle.arena.specs.Words.{field, LEFT, RIGHT}
+use Rattle.tree.specs.declared.Climbed.{Climbed}
+use Rattle.tree.specs.declared.Climbed.the-variants.{Done, Up, NotSound}
 use Rattle.lower.specs.Climb.{lowerOne, climbFrom}
-use Rattle.lower.specs.declared.climbing.Climbed.{Climbed}
-use Rattle.lower.specs.declared.climbing.Climbed.the-variants.{Done, Up, NotSound}
 use Rattle.remove.specs.Lift.{liftOut, replaced}
 use Rattle.remove.specs.Take.{isChildless, settleBare, settleAt, replacementOf, filledFrom, filledBy, closedFrom, takeOver, takeOut}
 use Rattle.remove.specs.declared.lifting.Lifted.{Lifted}

@@ -9,8 +9,9 @@ use lib.Dec.{leb, eqb}
 use Rattle.handle.specs.Numbers.{noSlot}
 use Rattle.arena.specs.Branch.{ifte}
 use Rattle.arena.specs.Words.{field, LEFT, RIGHT, PREV, NEXT}
-use Rattle.lower.specs.Climb.{lowerOne, onClimbed, climbFrom}
-use Rattle.lower.specs.declared.climbing.Climbed.{Climbed}
+use Rattle.tree.specs.Climb.{onClimbed}
+use Rattle.tree.specs.declared.Climbed.{Climbed}
+use Rattle.lower.specs.Climb.{lowerOne, climbFrom}
 use Rattle.remove.specs.Lift.{liftOut, replaced}
 use Rattle.remove.specs.declared.lifting.Lifted.{Lifted}
 

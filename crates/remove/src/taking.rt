@@ -13,7 +13,7 @@ use arena::words::PREV;
 use arena::words::RIGHT;
 use handle::Handle;
 use lower::climbing;
-use lower::climbing::Climbed;
+use tree::Climbed;
 
 // Whether the node i has no child.
 fn childless(s: &[u64], cap: u64, i: u64) -> bool

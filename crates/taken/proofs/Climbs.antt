@@ -19,9 +19,11 @@ use Rattle.wavl.specs.Taking as Taking
 use Rattle.wavl.proofs.Order.{Same, node-same, plug-same}
 use Rattle.wavl.proofs.Placed.{make, Parts, parts, WayRanks}
 use Rattle.wavl.proofs.Rounds.{remove-root, remove-stop, remove-lower, remove-rotate, remove-lower-both, remove-rotate-twice}
-use Rattle.lower.specs.Turns.{turnOnce, turnTwiceWith, turnTwice, hung}
-use Rattle.lower.specs.Climb.{goUp, onward, lowerOne, lowerBoth, climbTurn, onClimbed, climbFrom}
-use Rattle.lower.specs.declared.climbing.Climbed.the-variants.{Done}
+use Rattle.tree.specs.Links.{spreadWith}
+use Rattle.lower.specs.Turns.{turnOnce, turnTwiceWith, turnTwice}
+use Rattle.tree.specs.Climb.{onClimbed}
+use Rattle.tree.specs.declared.Climbed.the-variants.{Done}
+use Rattle.lower.specs.Climb.{goUp, onward, lowerOne, lowerBoth, climbTurn, climbFrom}
 use Rattle.holds.specs.Ends.{topSlot, number}
 use Rattle.holds.specs.Links.{Node, Links, TreeWords}
 use Rattle.holds.proofs.AnyDepth.{Regrown}
@@ -268,7 +270,7 @@ module _ (s : List ℕ) (cap : ℕ) (few : cap ≤ noSlot) (l : List ℕ) (d : S
         lows-a = rw (top-entry a there-a) (N .low)
 
         pub rotates-twice : Out
-        unfolding turnTwice turnTwiceWith hung
+        unfolding turnTwice turnTwiceWith spreadWith
         rotates-twice =
             let v = twice-turned s cap few (c .room) l d n0 e1 r1 (child d a) (entry a) (rank a) (child (other d) a) (entry s0) (rank s0) b q D3 (λ j z. rw are at (rw old-is at z)) W3 in
             ended _ (plug (rotateTwice d n0 e1 r1 s0 a) q)

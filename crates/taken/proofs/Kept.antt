@@ -2,18 +2,17 @@
 -- steps of crate `tree` as such writes. A reader may rely on: chain, entries, free and retired slots (none of them in l), the length
 -- and the numbers past the needed ones stay (`reshaped` and the groups of crate `holds`).
 use Prim.Native.Nat.{ℕ, _≤_, _<_}
-use mathlib.Core.Path.{_≡_, refl}
+use mathlib.Core.Path.{refl}
 use mathlib.Core.List.{List}
-use native.Mathlib.Decide.{ℕ-discrete}
 use native.Mathlib.Omega.{arith}
-use borrow.Author.Tests.{eq-eqb, ne-eqb}
-use Rattle.arena.specs.Words.{field, put, LEFT, RIGHT, BACK}
+use Rattle.arena.specs.Words.{LEFT, BACK}
 use Rattle.wavl.specs.Lists.{In}
-use Rattle.tree.specs.Links.{sideOf, withBack, withChild, relinked, withNode}
+use Rattle.tree.specs.Links.{sideOf, withBack, withChild, relinked}
+use Rattle.tree.proofs.Keeps.{side-small}
 use Rattle.holds.specs.Writes.{Only}
 use Rattle.holds.proofs.Trees.{LinkOf}
 use Rattle.holds.proofs.Reshaped.{IsRoot}
-use Rattle.holds.proofs.Writes.{only-none, only-trans, only-put, only-back, only-child, only-node}
+use Rattle.holds.proofs.Writes.{only-none, only-trans, only-back, only-child}
 
 abbrev pub TreeOnly : List ℕ → List ℕ → ℕ → List ℕ → Type 0
 TreeOnly s t cap l = Only s t cap (LinkOf l) IsRoot
@@ -21,23 +20,12 @@ TreeOnly s t cap l = Only s t cap (LinkOf l) IsRoot
 link-of : (l : List ℕ) (j g : ℕ) → In j l → LEFT ≤ g → g ≤ BACK → LinkOf l j g
 link-of l j g h lo up = record { slot-in = h; field-is = record { from = lo; to = up } }
 
-side-small : (s : List ℕ) (cap p c : ℕ) → sideOf s cap p c ≤ 1
-unfolding sideOf
-side-small s cap p c = go (ℕ-discrete (field s cap p RIGHT) c)
-  where
-    go : Dec (field s cap p RIGHT ≡ c) → sideOf s cap p c ≤ 1
-    go (yes e) = rw (eq-eqb (field s cap p RIGHT) c e) (omega arith)
-    go (no e) = rw (ne-eqb (field s cap p RIGHT) c e) (omega arith)
-
 module _ (cap : ℕ) (l : List ℕ) where
   pub tree-none : (s : List ℕ) → TreeOnly s s cap l
   tree-none s = only-none cap (LinkOf l) IsRoot s
 
   pub tree-trans : (s t u : List ℕ) → TreeOnly s t cap l → TreeOnly t u cap l → TreeOnly s u cap l
   tree-trans s t u a b = only-trans cap (LinkOf l) IsRoot s t u a b
-
-  pub tree-put : (s : List ℕ) (i f v : ℕ) → i < cap → LEFT ≤ f → f ≤ BACK → In i l → TreeOnly s (put s cap i f v) cap l
-  tree-put s i f v hi lo up h = only-put cap (LinkOf l) IsRoot s i f v hi (omega arith) (link-of l i f h lo up)
 
   pub tree-back : (s : List ℕ) (p b : ℕ) → (p < cap → In p l) → TreeOnly s (withBack s cap p b) cap l
   tree-back s p b h = only-back cap (LinkOf l) IsRoot s p b (λ x. link-of l p BACK (h x) (omega arith) (omega arith))
@@ -48,6 +36,3 @@ module _ (cap : ℕ) (l : List ℕ) where
   pub tree-relinked : (s : List ℕ) (p old new : ℕ) → (p < cap → In p l) → TreeOnly s (relinked s cap p old new) cap l
   unfolding relinked
   tree-relinked s p old new h = tree-child s p (sideOf s cap p old) new (side-small s cap p old) h
-
-  pub tree-node : (s : List ℕ) (d i back near far rank : ℕ) → d ≤ 1 → i < cap → In i l → TreeOnly s (withNode s cap d i back near far rank) cap l
-  tree-node s d i back near far rank hd hi h = only-node cap (LinkOf l) IsRoot s d i back near far rank hd hi (λ g x y. link-of l i g h x y)

@@ -13,9 +13,9 @@ use Rattle.wavl.specs.Tree.{Side, left, right, other, Tree, tip, fork, node, ra
 use Rattle.wavl.specs.Way.{step, Way, plug}
 use Rattle.wavl.proofs.Order.{node-same}
 use Rattle.tree.specs.Links.{rankOf, sideOf}
+use Rattle.tree.specs.declared.Climbed.{Climbed}
+use Rattle.tree.specs.declared.Climbed.the-variants.{Done, Up}
 use Rattle.lower.specs.Climb.{goUpTo, goUp}
-use Rattle.lower.specs.declared.climbing.Climbed.{Climbed}
-use Rattle.lower.specs.declared.climbing.Climbed.the-variants.{Done, Up}
 use Rattle.holds.specs.Ends.{topSlot, number}
 use Rattle.holds.specs.Links.{Links, TreeWords}
 use Rattle.holds.specs.Ways.{parent}

@@ -2,13 +2,12 @@
 -- A reader may rely on: remove-means and read-means, for every handle, live or not.
 use Prim.Native.Nat.{ℕ, _≤_, _<_}
 use mathlib.Core.Path.{_≡_, refl, sym, ap, _∙_}
-use mathlib.Core.Bool.{Bool, true, false}
+use mathlib.Core.Bool.{true}
 use mathlib.Core.List.{List, _∷_, _++_}
 use native.Mathlib.Decide.{decLt}
 use native.Mathlib.Omega.{arith}
 use lib.ListN.{length}
 use Rattle.handle.specs.declared.Handle as H
-use Rattle.handle.specs.declared.Refusal.the-variants.{InvalidPtr}
 use Rattle.arena.specs.Keys.{signed}
 use Rattle.arena.specs.Entries.{isLive, entryOf}
 use Rattle.arena.specs.declared.entries.Entry as A
@@ -23,8 +22,8 @@ use Rattle.wavl.proofs.Rising.{node-around, removed-around}
 use Rattle.chain.specs.Links.{joined}
 use Rattle.remove.specs.Take.{takeOut}
 use Rattle.remove.specs.Remove.{letGo, noted, removeLive, removeBy, readBy}
-use Rattle.remove.specs.declared.removing.Removed as D
-use Rattle.rules.specs.Queue.{Queue, entries, Names, Live}
+use Rattle.remove.proofs.Laws.{dead-refused}
+use Rattle.rules.specs.Queue.{Queue, entries, Names}
 use Rattle.rules.specs.Answers.{removed}
 use Rattle.rules.specs.Place.{Spot, nowhere, spot, spotOf}
 use Rattle.rules.specs.Look.{readSpot, read}
@@ -37,7 +36,7 @@ use Rattle.holds.specs.Ends.{firstSlot, lastSlot}
 use Rattle.holds.specs.Handles.{plain, isSpot}
 use Rattle.holds.specs.Holds.{Holds}
 use Rattle.holds.proofs.Parts.{sound-of, words-of, holds-of, few-slots, room-of, separate-of, size-few}
-use Rattle.holds.proofs.Live.{live-is, live-iff, spot-in, entry-at}
+use Rattle.holds.proofs.Live.{live-is, spot-in, entry-at}
 use Rattle.taken.specs.Meaning.{removedMeans, readMeans, Removes}
 use Rattle.taken.proofs.Climbing.{Came}
 use Rattle.taken.proofs.TakesOut.{Taking, takes-out}
@@ -65,9 +64,6 @@ module _ {s : List ℕ} {q : Queue} (k : Holds s q) (h : H.Handle) (a : Tree) (x
   abbrev cap : ℕ
   cap = q .capacity
 
-  abbrev i : ℕ
-  i = x .slot
-
   abbrev l : List Entry
   l = before p ++ inorder a
 
@@ -80,7 +76,7 @@ module _ {s : List ℕ} {q : Queue} (k : Holds s q) (h : H.Handle) (a : Tree) (x
   T : Taking s cap (plug (fork a x r b) p)
   T = rw tree-is (taking-of k)
 
-  C : Came s cap (slots (entries q)) t (takeOut s cap i)
+  C : Came s cap (slots (entries q)) t (takeOut s cap (x .slot))
   C = rw tree-is at (takes-out s cap a x r b p T)
 
   old : entries q ≡ l ++ (x ∷ m)
@@ -90,7 +86,7 @@ module _ {s : List ℕ} {q : Queue} (k : Holds s q) (h : H.Handle) (a : Tree) (x
   now = removed-around a x r b p (T .ranks)
 
   abbrev s1 : List ℕ
-  s1 = takeOut s cap i .0
+  s1 = takeOut s cap (x .slot) .0
 
   abbrev s2 : List ℕ
   s2 = joined s1 cap (lastSlot l) (firstSlot m)
@@ -108,9 +104,9 @@ module _ {s : List ℕ} {q : Queue} (k : Holds s q) (h : H.Handle) (a : Tree) (x
   R = released s s2 q (separate-of (sound-of k)) l x m old t now O top-most e
 
   abbrev s3 : List ℕ
-  s3 = releasedTo e s2 cap i (length (q .free))
+  s3 = releasedTo e s2 cap (x .slot) (length (q .free))
 
-  removes-to : removeLive s cap i ≡ (s3, noted (releasedAs e) (entryOf s cap i))
+  removes-to : removeLive s cap (x .slot) ≡ (s3, noted (releasedAs e) (entryOf s cap (x .slot)))
   unfolding removeLive letGo
   removes-to = rw (C .yes, unlinks s s1 q (separate-of (sound-of k)) (words-of k) l x m old t (C .words) (C .only), R .is)
 
@@ -119,25 +115,13 @@ module _ {s : List ℕ} {q : Queue} (k : Holds s q) (h : H.Handle) (a : Tree) (x
   live-removes live sound =
       rw (live, ← named .0, removes-to)
       (record {
-        answer = answered e x (entryOf s cap i) (rw (← named .0) at (entry-at k h x (spot-in k a x r b p tree-is) named));
+        answer = answered e x (entryOf s cap (x .slot)) (rw (← named .0) at (entry-at k h x (spot-in k a x r b p tree-is) named));
         holds = holds-of sound (R .words);
         long = R .only .long ∙ O .only .long;
         rest = λ j z. R .only .rest j z ∙ O .only .rest j z;
       })
 
 module _ {s : List ℕ} {q : Queue} (k : Holds s q) (h : H.Handle) where
-  -- "InvalidPtr: removal, reading or stepping with a handle that names no live entry"; a refusal changes nothing
-  dead : isLive s (q .capacity) h ≡ false → removeBy s (q .capacity) h ≡ (s, D.the-variants.Refused InvalidPtr)
-  unfolding removeBy
-  dead e = rw e
-
-  pub remove-refuses : ¬ (Live (plain h) q) → removeBy s (q .capacity) h ≡ (s, D.the-variants.Refused InvalidPtr)
-  remove-refuses n = go (isLive s (q .capacity) h) refl
-    where
-      go : (b : Bool) → isLive s (q .capacity) h ≡ b → removeBy s (q .capacity) h ≡ (s, D.the-variants.Refused InvalidPtr)
-      go true e = absurd (n (live-iff k h .0 e))
-      go false e = dead e
-
   -- the answer is the definition's, and the store then holds the definition's queue
   pub remove-means : Removes s (q .capacity) (removeBy s (q .capacity) h) (remove (plain h) q)
   unfolding remove removeSpot
@@ -145,7 +129,7 @@ module _ {s : List ℕ} {q : Queue} (k : Holds s q) (h : H.Handle) where
     where
       go : (w : Spot) → SpotIs (plain h) q w → isLive s (q .capacity) h ≡ isSpot w → Sound (removeSpot w q .1)
           → Removes s (q .capacity) (removeBy s (q .capacity) h) (removeSpot w q)
-      go nowhere f e d = rw (dead e) (record { answer = refl; holds = k; long = refl; rest = λ j z. refl })
+      go nowhere f e d = rw (dead-refused s (q .capacity) h e) (record { answer = refl; holds = k; long = refl; rest = λ j z. refl })
       go (spot a x r b p) f e d = live-removes k h a x r b p (f .0) (f .1) e d
 
   -- reading answers the definition's key and value, or its refusal

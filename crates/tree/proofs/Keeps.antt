@@ -7,9 +7,9 @@ use native.Mathlib.Omega.{arith}
 use lib.Dec.{eqb}
 use borrow.Author.Tests.{ltb-true}
 use Rattle.arena.specs.Branch.{ifte}
-use Rattle.arena.specs.Words.{fields, field, put, head, putHead, LEFT, RIGHT, RANK, BACK, ROOT}
+use Rattle.arena.specs.Words.{fields, field, put, putHead, LEFT, RIGHT, RANK, BACK, ROOT}
 use Rattle.arena.proofs.Laws.{length-put, length-putHead, field-off, head-put, rest-put, head-other, field-putHead, rest-putHead}
-use Rattle.tree.specs.Links.{sideOf, withBack, withChild, relinked, withNode}
+use Rattle.tree.specs.Links.{sideOf, withBack, withChild, relinked, withNode, spreadWith}
 use Rattle.tree.specs.Kept.{TreeOnly}
 
 -- a choice by a test, with what the test says on either way
@@ -76,3 +76,10 @@ node-only s cap d i back near far rank hi hd =
     only-trans _ _ _ _ (only-put _ _ _ _ _ hi (omega arith) (omega arith))
     (only-trans _ _ _ _ (only-put _ _ _ _ _ hi (omega arith) (omega arith))
     (only-trans _ _ _ _ (only-put _ _ _ _ _ hi (omega arith) (omega arith)) (only-put _ _ _ _ _ hi (omega arith) (omega arith))))
+
+pub spread-only : (s : List ℕ) (cap d x y z u c e v rank : ℕ) → y < cap → z < cap → d ≤ 1 → TreeOnly s (spreadWith s cap d x y z u c e v rank) cap
+unfolding spreadWith
+spread-only s cap d x y z u c e v rank hy hz hd =
+    only-trans _ _ _ _ (back-only _ _ _ _)
+    (only-trans _ _ _ _ (back-only _ _ _ _)
+    (only-trans _ _ _ _ (node-only _ _ _ _ _ _ _ _ hy hd) (node-only _ _ _ _ _ _ _ _ hz hd)))

@@ -30,3 +30,8 @@ relinked s cap p old new = withChild s cap p (sideOf s cap p old) new
 unfoldable pub withNode : List ℕ → ℕ → ℕ → ℕ → ℕ → ℕ → ℕ → ℕ → List ℕ
 withNode s cap d i back near far rank =
     put (put (put (put s cap i BACK back) cap i (LEFT + d) near) cap i (RIGHT - d) far) cap i RANK rank
+
+-- y and z under x, y on its side d, with the given rank: u and c below y, e and v below z
+unfoldable pub spreadWith : List ℕ → ℕ → ℕ → ℕ → ℕ → ℕ → ℕ → ℕ → ℕ → ℕ → ℕ → List ℕ
+spreadWith s cap d x y z u c e v rank =
+    withNode (withNode (withBack (withBack s cap c y) cap e z) cap d y x u c rank) cap d z x e v rank

@@ -4,7 +4,7 @@
 ghost use mathlib.Core.Path.{_≡_};
 ghost use Prim.Native.Nat.{_<_, _≤_};
 ghost use Rattle.arena.specs.Words.{Room};
-ghost use Rattle.tree.specs.Links.{rankOf, sideOf, withBack, relinked, withNode, withChild};
+ghost use Rattle.tree.specs.Links.{rankOf, sideOf, withBack, relinked, withNode, withChild, spreadWith};
 use arena::words;
 use arena::words::BACK;
 use arena::words::LEFT;
@@ -12,6 +12,13 @@ use arena::words::RANK;
 use arena::words::RIGHT;
 use arena::words::ROOT;
 use handle::Handle;
+
+// After a turn of a climb: the ranks fit from here on, or the climb goes on at a node and its side on which the turn was.
+pub enum Climbed {
+    Done,
+    Up(u64, u64),
+    NotSound,
+}
 
 // The rank of a child that may be missing: "A missing child counts as rank 0."
 pub fn rank_of(s: &[u64], cap: u64, p: u64) -> u64
@@ -87,4 +94,31 @@ pub fn put_node(s: &mut [u64], cap: u64, d: u64, i: u64, back: u64, near: u64, f
     words::put(s, cap, i, LEFT + d, near);
     words::put(s, cap, i, RIGHT - d, far);
     words::put(s, cap, i, RANK, rank);
+}
+
+// y and z come under x, y on its side d, and part the children c and e of x between them: u and c stand below y, e and v below z.
+// Both get the rank. What a double rotation writes before x itself rises, after an insertion and after a removal.
+pub fn spread(
+    s: &mut [u64],
+    cap: u64,
+    d: u64,
+    x: u64,
+    y: u64,
+    z: u64,
+    u: u64,
+    c: u64,
+    e: u64,
+    v: u64,
+    rank: u64,
+)
+    requires { ⌜ Room (now s) cap ⌝ }
+    requires { ⌜ d ≤ 1 ⌝ }
+    requires { ⌜ y < cap ⌝ }
+    requires { ⌜ z < cap ⌝ }
+    ensures { λ _. ⌜ now (s .exit) ≡ spreadWith (now (s .entry)) cap d x y z u c e v rank ⌝ }
+{
+    put_back(s, cap, c, y);
+    put_back(s, cap, e, z);
+    put_node(s, cap, d, y, x, u, c, rank);
+    put_node(s, cap, d, z, x, e, v, rank);
 }

@@ -1,5 +1,5 @@
 use borrow.Author.Needs.{needs}
-use Rattle.chain.specs.Steps.{stepFrom}
+use Rattle.chain.proofs.Answers.{step-reads}
 use Rattle.chain.proofs.step.Statement.{statement}
 use Rattle.chain.proofs.step.Tie as tie
 
@@ -13,8 +13,7 @@ follow-requires : tie.Need-follow-requires
 follow-requires c κs = search needs
 
 returns : tie.Need-returns
-unfolding stepFrom
-returns c = (cc, search needs)
+returns c = (step-reads _ _ _ _ _ _ (c .before .field .ensures) (c .follow .ensures .0), search needs)
 
 pub step-spec : {M : Type 1} → statement M
 step-spec = tie.close (tie.spec add-field field-requires follow-requires returns)

@@ -1,5 +1,5 @@
 use borrow.Author.Needs.{needs}
-use Rattle.chain.specs.Links.{joined, neighbours, unlinkSlot}
+use Rattle.chain.proofs.Answers.{unlink-reads}
 use Rattle.chain.proofs.unlink.Statement.{statement}
 use Rattle.chain.proofs.unlink.Tie as tie
 
@@ -19,8 +19,12 @@ same-length : tie.Need-same-length
 same-length c = search needs
 
 returns : tie.Need-returns
-unfolding unlinkSlot joined neighbours
-returns c = cc
+returns c =
+    let far = c .before .before in
+    let near = far .before .before .before .before in
+    let next = near .before .before in
+    let prev = next .before .before in
+    unlink-reads _ _ _ _ _ _ _ (prev .field .ensures) (next .field2 .ensures) (near .hook .ensures) (far .hook2 .ensures)
 
 pub unlink-spec : {M : Type 1} → statement M
 unlink-spec =

@@ -1,4 +1,3 @@
-use Rattle.arena.proofs.Paths.{paths}
 use borrow.Author.Needs.{needs}
 use Rattle.tree.specs.Links.{withNode}
 use Rattle.tree.proofs.put_node.Statement.{statement}

@@ -4,7 +4,8 @@ use native.Mathlib.Omega.{arith}
 use borrow.Author.Needs.{needs}
 use lib.ListN.{length}
 use Rattle.lower.specs.Climb.{climbFrom}
-use Rattle.lower.proofs.ClimbLoop.{up-low, up-side, again, ended, refused, spent}
+use Rattle.tree.proofs.Climb.{up-low, up-side}
+use Rattle.lower.proofs.ClimbLoop.{again, ended, refused, spent}
 use Rattle.lower.proofs.climbing.climb.Statement.{statement}
 use Rattle.lower.proofs.climbing.climb.Tie as tie
 

@@ -1,6 +1,6 @@
 use Rattle.arena.proofs.Paths.{paths, wrote}
 use Rattle.lower.specs.Climb.{climbPastWith}
-use Rattle.lower.proofs.ClimbReads.{past-reads}
+use Rattle.lower.proofs.ClimbReads.{past-reads, past-both}
 use borrow.Author.Needs.{needs}
 use Rattle.lower.proofs.climbing.climb_past.Statement.{statement}
 use Rattle.lower.proofs.climbing.climb_past.Tie as tie
@@ -63,8 +63,20 @@ same-length-4 : tie.Need-same-length-4
 same-length-4 c = search needs
 
 returns-4 : tie.Need-returns-4
-unfolding climbPastWith
-returns-4 c = (search (past-reads, paths) depth 12, search needs)
+returns-4 c =
+    let call = c .before .before in
+    let both = call .before .before in
+    let one = both .before in
+    let low = one .before in
+    let up = low .before .before in
+    let outer = up .before .before in
+    let inner = outer .before .before in
+    let b = inner .before .before in
+    let a = b .before .before in (
+      past-reads _ _ _ _ _ _ _ _ _ _ _ _ _ _ _ (a .field .ensures) (b .field2 .ensures) (inner .rank-of .ensures) (outer .rank-of2 .ensures) (up .field3 .ensures)
+          (past-both _ _ _ _ _ _ _ _ _ _ _ _ _ _ _ (low .before .if1 .left) (low .if2 .left) (one .if3 .left) (both .if4 .taken) (call .lower-both .ensures .0)),
+      search needs,
+    )
 
 same-length-5 : tie.Need-same-length-5
 same-length-5 c = search needs

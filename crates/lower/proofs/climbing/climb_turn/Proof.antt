@@ -1,6 +1,6 @@
 use Rattle.arena.proofs.Paths.{paths}
 use Rattle.lower.specs.Climb.{climbTurnWith}
-use Rattle.lower.proofs.ClimbReads.{turn-reads}
+use Rattle.lower.proofs.ClimbReads.{turn-reads, turn-fits}
 use borrow.Author.Needs.{needs}
 use Rattle.lower.proofs.climbing.climb_turn.Statement.{statement}
 use Rattle.lower.proofs.climbing.climb_turn.Tie as tie
@@ -37,8 +37,7 @@ same-length-2 : tie.Need-same-length-2
 same-length-2 c = search needs
 
 returns-2 : tie.Need-returns-2
-unfolding climbTurnWith
-returns-2 c = (search (turn-reads, paths) depth 12, search needs)
+returns-2 c = (search (turn-reads, turn-fits), search needs)
 
 same-length-3 : tie.Need-same-length-3
 same-length-3 c = search needs

@@ -15,8 +15,8 @@ sub-field c = search needs
 field-requires-2 : tie.Need-field-requires-2
 field-requires-2 c κs = search needs
 
-hang-requires : tie.Need-hang-requires
-hang-requires c κs = search needs
+spread-requires : tie.Need-spread-requires
+spread-requires c κs = search needs
 
 put-node-requires : tie.Need-put-node-requires
 put-node-requires c κs = search needs
@@ -38,7 +38,7 @@ turn-twice-spec =
     field-requires
     sub-field
     field-requires-2
-    hang-requires
+    spread-requires
     put-node-requires
     relink-requires
     same-length

@@ -4,7 +4,8 @@ use native.Mathlib.Omega.{arith}
 use borrow.Author.Needs.{needs}
 use lib.ListN.{length}
 use Rattle.rebalance.specs.Ranks.{budget, climbFrom}
-use Rattle.rebalance.proofs.Climbs.{again, ended, refused, spent, up-low, up-side}
+use Rattle.tree.proofs.Climb.{up-low, up-side}
+use Rattle.rebalance.proofs.Climbs.{again, ended, refused, spent}
 use Rattle.rebalance.proofs.ranks.climb.Statement.{statement}
 use Rattle.rebalance.proofs.ranks.climb.Tie as tie
 

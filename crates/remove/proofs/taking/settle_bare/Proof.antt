@@ -1,4 +1,4 @@
-use Rattle.lower.proofs.ClimbLoop.{up-low, up-side}
+use Rattle.tree.proofs.Climb.{up-low, up-side}
 use Rattle.remove.proofs.TakeReads.{bare-up, bare-done, bare-refused}
 use native.Mathlib.Omega.{arith}
 use borrow.Author.Needs.{needs}

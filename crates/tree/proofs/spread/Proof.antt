@@ -1,7 +1,7 @@
-use Rattle.lower.proofs.ClimbReads.{hang-steps}
 use borrow.Author.Needs.{needs}
-use Rattle.lower.proofs.turns.hang.Statement.{statement}
-use Rattle.lower.proofs.turns.hang.Tie as tie
+use Rattle.tree.specs.Links.{spreadWith}
+use Rattle.tree.proofs.spread.Statement.{statement}
+use Rattle.tree.proofs.spread.Tie as tie
 
 put-back-requires : tie.Need-put-back-requires
 put-back-requires c κs = search needs
@@ -19,10 +19,16 @@ same-length : tie.Need-same-length
 same-length c = search needs
 
 returns : tie.Need-returns
-returns c = search hang-steps
+unfolding spreadWith
+returns c =
+    let c₄ = c .before .before in
+    let c₃ = c₄ .before .before .before .before in
+    let c₂ = c₃ .before .before .before .before in
+    let c₁ = c₂ .before .before .before .before in
+    rw (c₄ .put-node2 .ensures, c₃ .put-node .ensures, c₂ .put-back2 .ensures, c₁ .put-back .ensures)
 
-pub hang-spec : {M : Type 1} → statement M
-hang-spec =
+pub spread-spec : {M : Type 1} → statement M
+spread-spec =
     tie.close
     (tie.spec
     put-back-requires
