@@ -2,8 +2,8 @@ use native.Mathlib.Omega.{arith}
 use lib.Seq.{length-take-le}
 use mathlib.Core.Path.{sym}
 use borrow.Author.Needs.{needs}
-use Rattle.answers.proofs.out.write_first.Statement.{statement}
-use Rattle.answers.proofs.out.write_first.Tie as tie
+use Rattle.output.proofs.out.write_first.Statement.{statement}
+use Rattle.output.proofs.out.write_first.Tie as tie
 
 slice-aggregate-write-all : tie.Need-slice-aggregate-write-all
 slice-aggregate-write-all c = sym (length-take-le _ _ (omega arith))

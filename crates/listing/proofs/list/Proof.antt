@@ -1,7 +1,7 @@
 use borrow.Author.Needs.{needs}
 use Rattle.arena.proofs.Answers.{passes-room}
-use Rattle.replay.proofs.listing.list.Statement.{statement}
-use Rattle.replay.proofs.listing.list.Tie as tie
+use Rattle.listing.proofs.list.Statement.{statement}
+use Rattle.listing.proofs.list.Tie as tie
 
 test-requires : tie.Need-test-requires
 test-requires c κs = search needs
@@ -18,9 +18,6 @@ list-entries-requires c κs = search passes-room
 enum-told : tie.Need-enum-told
 enum-told c = search needs
 
-write-requires : tie.Need-write-requires
-write-requires c κs = search needs
-
 returns : tie.Need-returns
 returns c = search needs
 
@@ -36,6 +33,5 @@ list-spec =
     counts-requires
     list-entries-requires
     enum-told
-    write-requires
     returns
     returns-2)

@@ -1,6 +1,6 @@
 use borrow.Author.Needs.{needs}
-use Rattle.replay.proofs.listing.list_entries.Statement.{statement}
-use Rattle.replay.proofs.listing.list_entries.Tie as tie
+use Rattle.listing.proofs.list_entries.Statement.{statement}
+use Rattle.listing.proofs.list_entries.Tie as tie
 
 abbrev Inv-loop : tie.InvT-loop
 Inv-loop s cap o₀ at₀ left₀ m₀ o at left m = Unit {0}

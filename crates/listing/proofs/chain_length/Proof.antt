@@ -1,7 +1,7 @@
 use Prim.Native.Nat.{_-_}
 use borrow.Author.Needs.{needs}
-use Rattle.replay.proofs.listing.chain_length.Statement.{statement}
-use Rattle.replay.proofs.listing.chain_length.Tie as tie
+use Rattle.listing.proofs.chain_length.Statement.{statement}
+use Rattle.listing.proofs.chain_length.Tie as tie
 
 abbrev Inv-loop : tie.InvT-loop
 Inv-loop s most n₀ m₀ n m = Unit {0}

@@ -1,7 +1,7 @@
 // Output: bytes are collected in a buffer, which is written out when it is full and at the end of the run.
 // `at` is how much of the buffer is in use; every function here is safe at any `at`.
+use crate::signs;
 use arena::entries::Entry;
-use arena::keys;
 use handle::Key;
 use libc::STDERR_FILENO;
 use libc::STDOUT_FILENO;
@@ -13,7 +13,7 @@ pub const ROOM: usize = 65536;
 fn write_first(all: &[u8], n: usize) {
     if n <= all.len() {
         if !io::write_all(STDOUT_FILENO, &all[..n]) {
-            io::write_all(STDERR_FILENO, b"replay: could not write all answers\n");
+            io::write_all(STDERR_FILENO, b"could not write all of the output\n");
         }
     }
 }
@@ -55,15 +55,13 @@ pub fn more(out: &mut [u8; 65536], at: &mut usize, n: u64) {
     number(out, at, n);
 }
 
-// A key with its sign. Its stored form is the key and 2^63, from which both can be read off.
+// A key with its sign.
 pub fn key(out: &mut [u8; 65536], at: &mut usize, k: Key) {
-    let w = keys::stored_key(k);
-    if w < 9223372036854775808 {
+    let z = k.0;
+    if signs::is_below_zero(z) {
         byte(out, at, b'-');
-        number(out, at, 9223372036854775808 - w);
-    } else {
-        number(out, at, w - 9223372036854775808);
     }
+    number(out, at, signs::size(z));
 }
 
 // A key and a value.

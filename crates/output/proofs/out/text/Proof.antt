@@ -1,8 +1,8 @@
 use Prim.Native.Nat.{_-_}
 use lib.ListN.{length}
 use borrow.Author.Needs.{needs}
-use Rattle.answers.proofs.out.text.Statement.{statement}
-use Rattle.answers.proofs.out.text.Tie as tie
+use Rattle.output.proofs.out.text.Statement.{statement}
+use Rattle.output.proofs.out.text.Tie as tie
 
 abbrev Inv-loop : tie.InvT-loop
 Inv-loop out₀ at₀ t i₀ out at i = Unit {0}
