@@ -2,4 +2,4 @@
 // Every function is safe for any arguments; no contract speaks of what is written, so each program's output is compared.
 pub mod out;
 pub mod say;
-mod signs;
+pub mod signs;

@@ -20,6 +20,16 @@ pub fn signed(z: i64) {
     number(signs::size(z));
 }
 
+// So many things of a kind: `1 stroke`, `2 strokes`.
+pub fn counted(n: u64, kind: &[u8]) {
+    number(n);
+    text(b" ");
+    text(kind);
+    if n != 1 {
+        text(b"s");
+    }
+}
+
 // A refusal with document 01's number and in a clockmaker's words, to the end of the line.
 pub fn refused(r: Refusal) {
     text(b"refused ");
