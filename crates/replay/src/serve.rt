@@ -1,9 +1,10 @@
 // A command and its answer. `s` is the store, `t` the table of numbers, `o` and `at` the output.
-use crate::listing;
-use crate::looking;
-use crate::placing;
+use crate::dumping;
 use answers::answer::Answer;
 use answers::answer::write;
+use commands::looking;
+use commands::placing;
+use handle::Refusal;
 use script::command::Command;
 
 pub fn respond(
@@ -14,12 +15,25 @@ pub fn respond(
     at: &mut usize,
 ) {
     match c {
-        Command::List => listing::list(s, o, at),
-        Command::Dump => listing::dump(s, t, o, at),
+        Command::List => {
+            let is_passed = listing::list(s, o, at);
+            refuse_unless(is_passed, o, at);
+        }
+        Command::Dump => {
+            let is_passed = dumping::dump(s, t, o, at);
+            refuse_unless(is_passed, o, at);
+        }
         _ => {
             let a = change(c, s, t);
             write(o, at, a);
         }
+    }
+}
+
+// Where the header fails, nothing is written but the refusal.
+fn refuse_unless(is_passed: bool, o: &mut [u8; 65536], at: &mut usize) {
+    if !is_passed {
+        write(o, at, Answer::Refused(Refusal::NotSound));
     }
 }
 

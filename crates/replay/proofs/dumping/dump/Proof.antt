@@ -1,7 +1,7 @@
 use borrow.Author.Needs.{needs}
 use Rattle.arena.proofs.Answers.{passes-room}
-use Rattle.replay.proofs.listing.dump.Statement.{statement}
-use Rattle.replay.proofs.listing.dump.Tie as tie
+use Rattle.replay.proofs.dumping.dump.Statement.{statement}
+use Rattle.replay.proofs.dumping.dump.Tie as tie
 
 test-requires : tie.Need-test-requires
 test-requires c κs = search needs
@@ -18,9 +18,6 @@ dump-entries-requires c κs = search passes-room
 enum-told : tie.Need-enum-told
 enum-told c = search needs
 
-write-requires : tie.Need-write-requires
-write-requires c κs = search needs
-
 returns : tie.Need-returns
 returns c = search needs
 
@@ -36,6 +33,5 @@ dump-spec =
     ends-requires
     dump-entries-requires
     enum-told
-    write-requires
     returns
     returns-2)
