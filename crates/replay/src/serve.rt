@@ -1,5 +1,4 @@
 // A command and its answer. `s` is the store, `t` the table of numbers, `o` and `at` the output.
-use crate::dumping;
 use answers::answer::Answer;
 use answers::answer::write;
 use commands::looking;
@@ -20,7 +19,7 @@ pub fn respond(
             refuse_unless(is_passed, o, at);
         }
         Command::Dump => {
-            let is_passed = dumping::dump(s, t, o, at);
+            let is_passed = dump::dump(s, t, o, at);
             refuse_unless(is_passed, o, at);
         }
         _ => {
