@@ -1,7 +1,6 @@
 // Reads a script on standard input and writes the queue's answers on standard output, a line for a line.
 // The script language is that of paired runs: the same script gives the same bytes from the Rust side.
 mod lines;
-mod serve;
 
 use libc::STDERR_FILENO;
 use libc::STDIN_FILENO;

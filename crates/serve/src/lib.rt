@@ -1,4 +1,7 @@
-// A command and its answer. `s` is the store, `t` the table of numbers, `o` and `at` the output.
+// A script's command and its answer. `s` is the store, `t` the table of insertions' numbers, `o` and `at` the output.
+// Every function is safe on any store; what is written is held against the Rust side by paired runs.
+mod dumping;
+
 use answers::answer::Answer;
 use answers::answer::write;
 use commands::looking;
@@ -19,7 +22,7 @@ pub fn respond(
             refuse_unless(is_passed, o, at);
         }
         Command::Dump => {
-            let is_passed = dump::dump(s, t, o, at);
+            let is_passed = dumping::dump(s, t, o, at);
             refuse_unless(is_passed, o, at);
         }
         _ => {

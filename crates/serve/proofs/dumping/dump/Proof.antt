@@ -1,7 +1,7 @@
 use borrow.Author.Needs.{needs}
 use Rattle.arena.proofs.Answers.{passes-room}
-use Rattle.dump.proofs.dump.Statement.{statement}
-use Rattle.dump.proofs.dump.Tie as tie
+use Rattle.serve.proofs.dumping.dump.Statement.{statement}
+use Rattle.serve.proofs.dumping.dump.Tie as tie
 
 test-requires : tie.Need-test-requires
 test-requires c κs = search needs

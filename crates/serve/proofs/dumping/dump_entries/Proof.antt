@@ -1,6 +1,6 @@
 use borrow.Author.Needs.{needs}
-use Rattle.dump.proofs.dump_entries.Statement.{statement}
-use Rattle.dump.proofs.dump_entries.Tie as tie
+use Rattle.serve.proofs.dumping.dump_entries.Statement.{statement}
+use Rattle.serve.proofs.dumping.dump_entries.Tie as tie
 
 abbrev Inv-loop : tie.InvT-loop
 Inv-loop s cap t o₀ at₀ left₀ m₀ o at left m = Unit {0}
