@@ -26,11 +26,13 @@ pub struct Planned {
     pub half: Handle,
 }
 
+// 1,025 slots are tried on a store that would be long enough for them, so that it is the limit that refuses them.
 pub fn lay_out(s: &mut Store) {
+    let mut wide = [0u64; 10266];
     say::text(b"A queue is laid out. Before that no strike can be planned.\n");
     plan(s, SIX, 6);
     lay(s, 0, 9);
-    lay(s, 1_025, 9);
+    lay(&mut wide, 1_025, 9);
     lay(s, 6, 9);
     lay(s, 5, 9);
 }
