@@ -1,8 +1,8 @@
 // What a command is answered with, as plain data, and how it is written: one line each.
-use crate::out;
 use arena::entries::Entry;
 use handle::Refusal;
 use handle::Side;
+use output::out;
 
 // Numbers are those of insertions, but for an old value and a count, which come last.
 pub enum Answer {

@@ -7,36 +7,21 @@ use arena::laying::LaidOut;
 use arena::slots;
 use arena::slots::Freed;
 use arena::slots::Taken;
-use handle::Refusal;
-use libc::STDOUT_FILENO;
-
-fn say(text: &[u8]) {
-    io::write_all(STDOUT_FILENO, text);
-}
-
-fn number(n: u64) {
-    io::print_decimal(STDOUT_FILENO, n);
-}
-
-fn refused(r: Refusal) {
-    say(b"refused ");
-    number(r.number());
-    say(b"\n");
-}
+use output::say;
 
 // Lays the store out and says how that went.
 fn lay(s: &mut [u64], capacity: u64, top: u64) {
-    say(b"lay out ");
-    number(capacity);
-    say(b" slots, top ");
-    number(top);
-    say(b", in ");
-    number(s.len() as u64);
-    say(b" numbers: ");
+    say::text(b"lay out ");
+    say::number(capacity);
+    say::text(b" slots, top ");
+    say::number(top);
+    say::text(b", in ");
+    say::number(s.len() as u64);
+    say::text(b" numbers: ");
     let answer = laying::lay_out(s, capacity, top);
     match answer {
-        LaidOut::Done => say(b"done\n"),
-        LaidOut::Refused(r) => refused(r),
+        LaidOut::Done => say::text(b"done\n"),
+        LaidOut::Refused(r) => say::refused(r),
     }
 }
 
@@ -54,35 +39,35 @@ fn take_one(s: &mut [u64]) {
     let answer = take(s);
     match answer {
         Taken::At(h) => {
-            say(b"take: slot ");
-            number(h.slot.0);
-            say(b" generation ");
-            number(h.generation.0);
-            say(b"\n");
+            say::text(b"take: slot ");
+            say::number(h.slot.0);
+            say::text(b" generation ");
+            say::number(h.generation.0);
+            say::text(b"\n");
         }
-        Taken::Full => say(b"take: none free\n"),
-        Taken::NotSound => say(b"take: not sound\n"),
+        Taken::Full => say::text(b"take: none free\n"),
+        Taken::NotSound => say::text(b"take: not sound\n"),
     }
 }
 
 // Frees a slot and says what became of it.
 fn free_one(s: &mut [u64], i: u64) {
-    say(b"free ");
-    number(i);
+    say::text(b"free ");
+    say::number(i);
     let h = header::test(s);
     let Header::Passes(cap) = h else {
-        say(b": not sound\n");
+        say::text(b": not sound\n");
         return;
     };
     if cap <= i {
-        say(b": no such slot\n");
+        say::text(b": no such slot\n");
         return;
     }
     let answer = slots::free(s, cap, i);
     match answer {
-        Freed::Again => say(b": free again\n"),
-        Freed::GenerationOverflow => say(b": GenerationOverflow, retired\n"),
-        Freed::NotSound => say(b": not sound\n"),
+        Freed::Again => say::text(b": free again\n"),
+        Freed::GenerationOverflow => say::text(b": GenerationOverflow, retired\n"),
+        Freed::NotSound => say::text(b": not sound\n"),
     }
 }
 
@@ -100,9 +85,9 @@ fn exhaust(s: &mut [u64], most: u64) -> u64 {
 
 fn take_all(s: &mut [u64], most: u64) {
     let n = exhaust(s, most);
-    say(b"took ");
-    number(n);
-    say(b" slots\n");
+    say::text(b"took ");
+    say::number(n);
+    say::text(b" slots\n");
 }
 
 // One slot with two lives.

@@ -1,6 +1,5 @@
 // Lines out of the bytes that were read. A line that goes over the end of a part is kept in `line` till the rest comes.
 // `held` counts its bytes so far; 129 stands for too many.
-use crate::serve;
 use script::command;
 use script::command::Command;
 

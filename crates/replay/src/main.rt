@@ -1,14 +1,10 @@
 // Reads a script on standard input and writes the queue's answers on standard output, a line for a line.
 // The script language is that of paired runs: the same script gives the same bytes from the Rust side.
 mod lines;
-mod listing;
-mod looking;
-mod placing;
-mod serve;
 
-use answers::out;
 use libc::STDERR_FILENO;
 use libc::STDIN_FILENO;
+use output::out;
 
 // Reads one part of the input and serves it. Answers whether there may be more.
 fn read_part(

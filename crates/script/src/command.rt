@@ -88,6 +88,14 @@ fn read_call(word: Word, s: &[u8], at: usize) -> Command {
     }
 }
 
+// The command, if no field follows what it was read from.
+fn last(c: Command, s: &[u8], end: usize) -> Command {
+    if fields::ends(s, end) {
+        return c;
+    }
+    Command::Bad
+}
+
 fn read_new(s: &[u8], at: usize) -> Command {
     let NumberField::Is(capacity, next) = fields::number_field(s, at) else {
         return Command::Bad;
@@ -95,10 +103,7 @@ fn read_new(s: &[u8], at: usize) -> Command {
     let NumberField::Is(top, end) = fields::number_field(s, next) else {
         return Command::Bad;
     };
-    if fields::ends(s, end) {
-        return Command::New(capacity, top);
-    }
-    Command::Bad
+    last(Command::New(capacity, top), s, end)
 }
 
 // The number and the side of a Manual place.
@@ -119,30 +124,21 @@ fn insertion(place: Place, s: &[u8], at: usize) -> Command {
     let NumberField::Is(value, end) = fields::number_field(s, next) else {
         return Command::Bad;
     };
-    if fields::ends(s, end) {
-        return Command::Insert(place, key, value);
-    }
-    Command::Bad
+    last(Command::Insert(place, key, value), s, end)
 }
 
 fn look(place: Place, s: &[u8], at: usize) -> Command {
     let KeyField::Is(key, end) = fields::key_field(s, at) else {
         return Command::Bad;
     };
-    if fields::ends(s, end) {
-        return Command::Ahead(place, key);
-    }
-    Command::Bad
+    last(Command::Ahead(place, key), s, end)
 }
 
 fn find(s: &[u8], at: usize) -> Command {
     let KeyField::Is(key, end) = fields::key_field(s, at) else {
         return Command::Bad;
     };
-    if fields::ends(s, end) {
-        return Command::Find(key);
-    }
-    Command::Bad
+    last(Command::Find(key), s, end)
 }
 
 // A word with one number behind it.
@@ -150,29 +146,25 @@ fn by_number(word: Word, s: &[u8], at: usize) -> Command {
     let NumberField::Is(n, end) = fields::number_field(s, at) else {
         return Command::Bad;
     };
-    if !fields::ends(s, end) {
-        return Command::Bad;
-    }
-    match word {
+    let c = match word {
         Word::Rem => Command::Remove(n),
         Word::Get => Command::Get(n),
         Word::Next => Command::Next(n),
         Word::Prev => Command::Prev(n),
         _ => Command::Unknown,
-    }
+    };
+    last(c, s, end)
 }
 
 // A word with nothing behind it.
 fn alone(word: Word, s: &[u8], at: usize) -> Command {
-    if !fields::ends(s, at) {
-        return Command::Bad;
-    }
-    match word {
+    let c = match word {
         Word::First => Command::First,
         Word::Last => Command::Last,
         Word::List => Command::List,
         Word::Dump => Command::Dump,
         Word::Check => Command::Check,
         _ => Command::Unknown,
-    }
+    };
+    last(c, s, at)
 }

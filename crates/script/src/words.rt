@@ -1,4 +1,6 @@
 // The words of the script language: the first field of a line, exactly and in lower case.
+use check::same;
+
 pub enum Word {
     New,
     Ins,
@@ -18,20 +20,6 @@ pub enum Word {
     Dump,
     Check,
     Unknown,
-}
-
-fn same(a: &[u8], b: &[u8]) -> bool {
-    if a.len() != b.len() {
-        return false;
-    }
-    let mut i: usize = 0;
-    while i < a.len() {
-        if a[i] != b[i] {
-            return false;
-        }
-        i += 1;
-    }
-    true
 }
 
 pub fn word_of(s: &[u8]) -> Word {

@@ -6,44 +6,40 @@ mod text;
 use due::KeyAnswer;
 use due::TimeAnswer;
 use libc::STDIN_FILENO;
-use libc::STDOUT_FILENO;
+use output::say;
 use text::Asked;
-
-fn say(s: &[u8]) {
-    io::write_all(STDOUT_FILENO, s);
-}
 
 fn show_key(a: KeyAnswer) {
     match a {
-        KeyAnswer::At(key) => text::print(key),
-        KeyAnswer::BadTime => say(b"refused 6"),
+        KeyAnswer::At(key) => say::signed(key),
+        KeyAnswer::BadTime => say::text(b"refused 6"),
     }
 }
 
 fn show_time(a: TimeAnswer) {
     match a {
         TimeAnswer::At(t) => {
-            text::print(t.day);
-            say(b" ");
-            text::print(t.second);
+            say::signed(t.day);
+            say::text(b" ");
+            say::signed(t.second);
         }
-        TimeAnswer::BadTime => say(b"refused 6"),
+        TimeAnswer::BadTime => say::text(b"refused 6"),
     }
 }
 
 fn answer(line: &[u8]) {
-    say(line);
+    say::text(line);
     if text::is_remark(line) {
-        say(b"\n");
+        say::text(b"\n");
         return;
     }
-    say(b" -> ");
+    say::text(b" -> ");
     match text::question(line) {
         Asked::Key(day, second, offset) => show_key(due::key_of(day, second, offset)),
         Asked::Time(key, offset) => show_time(due::time_of(key, offset)),
-        Asked::Nothing => say(b"no question"),
+        Asked::Nothing => say::text(b"no question"),
     }
-    say(b"\n");
+    say::text(b"\n");
 }
 
 // A line of n bytes stands at the start of `line`; n past its end marks one that was too long to keep.
@@ -51,7 +47,7 @@ fn end_line(line: &[u8], n: usize) {
     if n <= line.len() {
         answer(&line[0..n]);
     } else {
-        say(b"(a line that is too long) -> no question\n");
+        say::text(b"(a line that is too long) -> no question\n");
     }
 }
 

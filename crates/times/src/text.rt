@@ -1,6 +1,5 @@
-// Questions and numbers as text. Nothing here is promised beyond that every call is safe and ends: the program's tests
+// Questions as text. Nothing here is promised beyond that every call is safe and ends: the program's tests
 // compare what it makes of its input with another implementation.
-use libc::STDOUT_FILENO;
 ghost use Prim.Native.Nat.{_≤_};
 
 pub enum Asked {
@@ -139,15 +138,4 @@ pub fn question(s: &[u8]) -> Asked {
         return time_asked(s);
     }
     Asked::Nothing
-}
-
-// -(z + 1) has no overflow where -z could have one.
-pub fn print(z: i64) {
-    if z < 0 {
-        io::write_all(STDOUT_FILENO, b"-");
-        let less = (0 - (z + 1)) as u64;
-        io::print_decimal(STDOUT_FILENO, less + 1);
-    } else {
-        io::print_decimal(STDOUT_FILENO, z as u64);
-    }
 }

@@ -3,11 +3,11 @@ use borrow.Author.Needs.{needs}
 use Rattle.ground.proofs.free_one.Statement.{statement}
 use Rattle.ground.proofs.free_one.Tie as tie
 
-slice-aggregate-say : tie.Need-slice-aggregate-say
-slice-aggregate-say c = search needs
+slice-aggregate-text : tie.Need-slice-aggregate-text
+slice-aggregate-text c = search needs
 
-say-requires : tie.Need-say-requires
-say-requires c κs = search needs
+text-requires : tie.Need-text-requires
+text-requires c κs = search needs
 
 number-requires : tie.Need-number-requires
 number-requires c κs = search needs
@@ -21,11 +21,11 @@ enum-known-h c = search needs
 enum-told : tie.Need-enum-told
 enum-told c = search needs
 
-slice-aggregate-say-2 : tie.Need-slice-aggregate-say-2
-slice-aggregate-say-2 c = search needs
+slice-aggregate-text-2 : tie.Need-slice-aggregate-text-2
+slice-aggregate-text-2 c = search needs
 
-say-requires-2 : tie.Need-say-requires-2
-say-requires-2 c κs = search needs
+text-requires-2 : tie.Need-text-requires-2
+text-requires-2 c κs = search needs
 
 same-length : tie.Need-same-length
 same-length c = search needs
@@ -33,11 +33,11 @@ same-length c = search needs
 returns : tie.Need-returns
 returns c = search needs
 
-slice-aggregate-say-3 : tie.Need-slice-aggregate-say-3
-slice-aggregate-say-3 c = search needs
+slice-aggregate-text-3 : tie.Need-slice-aggregate-text-3
+slice-aggregate-text-3 c = search needs
 
-say-requires-3 : tie.Need-say-requires-3
-say-requires-3 c κs = search needs
+text-requires-3 : tie.Need-text-requires-3
+text-requires-3 c κs = search needs
 
 same-length-2 : tie.Need-same-length-2
 same-length-2 c = search needs
@@ -51,29 +51,29 @@ free-requires c κs = search passes-room
 enum-told-2 : tie.Need-enum-told-2
 enum-told-2 c = search needs
 
-slice-aggregate-say-4 : tie.Need-slice-aggregate-say-4
-slice-aggregate-say-4 c = search needs
+slice-aggregate-text-4 : tie.Need-slice-aggregate-text-4
+slice-aggregate-text-4 c = search needs
 
-say-requires-4 : tie.Need-say-requires-4
-say-requires-4 c κs = search needs
+text-requires-4 : tie.Need-text-requires-4
+text-requires-4 c κs = search needs
 
 enum-told-3 : tie.Need-enum-told-3
 enum-told-3 c = search needs
 
-slice-aggregate-say-5 : tie.Need-slice-aggregate-say-5
-slice-aggregate-say-5 c = search needs
+slice-aggregate-text-5 : tie.Need-slice-aggregate-text-5
+slice-aggregate-text-5 c = search needs
 
-say-requires-5 : tie.Need-say-requires-5
-say-requires-5 c κs = search needs
+text-requires-5 : tie.Need-text-requires-5
+text-requires-5 c κs = search needs
 
 enum-told-4 : tie.Need-enum-told-4
 enum-told-4 c = search needs
 
-slice-aggregate-say-6 : tie.Need-slice-aggregate-say-6
-slice-aggregate-say-6 c = search needs
+slice-aggregate-text-6 : tie.Need-slice-aggregate-text-6
+slice-aggregate-text-6 c = search needs
 
-say-requires-6 : tie.Need-say-requires-6
-say-requires-6 c κs = search needs
+text-requires-6 : tie.Need-text-requires-6
+text-requires-6 c κs = search needs
 
 same-length-3 : tie.Need-same-length-3
 same-length-3 c = search needs
@@ -97,30 +97,30 @@ pub free-one-spec : {M : Type 1} → statement M
 free-one-spec =
     tie.close
     (tie.spec
-    slice-aggregate-say
-    say-requires
+    slice-aggregate-text
+    text-requires
     number-requires
     test-requires
     enum-known-h
     enum-told
-    slice-aggregate-say-2
-    say-requires-2
+    slice-aggregate-text-2
+    text-requires-2
     same-length
     returns
-    slice-aggregate-say-3
-    say-requires-3
+    slice-aggregate-text-3
+    text-requires-3
     same-length-2
     returns-2
     free-requires
     enum-told-2
-    slice-aggregate-say-4
-    say-requires-4
+    slice-aggregate-text-4
+    text-requires-4
     enum-told-3
-    slice-aggregate-say-5
-    say-requires-5
+    slice-aggregate-text-5
+    text-requires-5
     enum-told-4
-    slice-aggregate-say-6
-    say-requires-6
+    slice-aggregate-text-6
+    text-requires-6
     same-length-3
     returns-3
     same-length-4

@@ -6,15 +6,18 @@ use common::expect;
 const A: &str = "new 8 3\nins 10 1\nins 20 2\nins 30 3\n";
 const A_SAID: &str = "ok\nnew 0\nnew 1\nnew 2\n";
 
+/// Run A, then more.
+fn after_a(more: &str, answers: &str) {
+    after(A, A_SAID, more, answers);
+}
+
 fn after(start: &str, said: &str, more: &str, answers: &str) {
     expect(&format!("{start}{more}\ncheck\n"), &format!("{said}{answers}\nsound\n"));
 }
 
 #[test]
 fn a() {
-    after(
-        A,
-        A_SAID,
+    after_a(
         "dump",
         "dump 3 root 1 first 0 last 2
         0 10 1 1 1 - - - 1
@@ -25,9 +28,7 @@ fn a() {
 
 #[test]
 fn a_listed_whole() {
-    after(
-        A,
-        A_SAID,
+    after_a(
         "list",
         "live 3 free 5 retired 0
         10 1 0 1 1
@@ -52,9 +53,7 @@ fn b_is_the_same_tree() {
 
 #[test]
 fn c() {
-    after(
-        A,
-        A_SAID,
+    after_a(
         "ins 40 4\nlist",
         "new 3
         live 4 free 4 retired 0
@@ -67,9 +66,7 @@ fn c() {
 
 #[test]
 fn d_and_e() {
-    after(
-        A,
-        A_SAID,
+    after_a(
         "rem 1\ndump\nrem 0\ndump",
         "rem 1 20 2
         dump 2 root 0 first 0 last 2
@@ -83,9 +80,7 @@ fn d_and_e() {
 
 #[test]
 fn f_and_g() {
-    after(
-        A,
-        A_SAID,
+    after_a(
         "ins 40 4\nrem 0\ndump\nrem 1\ndump",
         "new 3\nrem 0 10 1
         dump 3 root 2 first 1 last 3

@@ -1,12 +1,22 @@
 -- `times::text::signed` is safe. Assumes nothing.
-use Prim.Native.Nat.{_<_, _^_}
+use Prim.Native.Nat.{ℕ, _<_, _^_}
 use native.Mathlib.Omega.{arith}
 use borrow.Author.Needs.{needs}
-use lib.IntN.{pos}
+use lib.IntN.{pos, _-ℤ_}
 use mir.Facts.{toZ-ofZ}
+use mir.Syntax.{w64}
+use mir.Val.{SFits}
+use Rattle.rules.proofs.DueSigns.{apart, diff-law}
+use Rattle.due.proofs.Sizes.{fits}
 use Rattle.times.proofs.text.signed.Statement.{statement}
 use Rattle.times.proofs.text.signed.Tie as tie
-use Rattle.times.proofs.Numbers.{negated-fits}
+
+-- a number of at most 2^63 - 1, taken from 0
+negated-fits : (v : ℕ) → v < 2 ^ 63 → SFits w64 (pos 0 -ℤ pos v)
+negated-fits v h =
+    let n = apart (pos 0 -ℤ pos v) in
+    let d = diff-law (pos 0) (pos v) in
+    fits (pos 0 -ℤ pos v) (omega arith) (omega arith)
 
 cast-n : tie.Need-cast-n
 cast-n c = search needs

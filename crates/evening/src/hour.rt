@@ -1,0 +1,64 @@
+// The planning: a queue is laid out, and the strikes of the hour from six to seven are planned in it.
+use crate::Store;
+use handle::Handle;
+use output::say;
+use tower::planning::lay;
+use tower::planning::plan;
+
+// Seconds into the day.
+pub const SIX: i64 = 64_800;
+
+pub const FIRST_QUARTER: i64 = 65_700;
+
+pub const HALF: i64 = 66_600;
+
+const LAST_QUARTER: i64 = 67_500;
+
+const EVENING_BELL: i64 = 67_800;
+
+const SEVEN: i64 = 68_400;
+
+const MIDNIGHT: i64 = 86_400;
+
+// Two of the strikes' handles.
+pub struct Planned {
+    pub quarter: Handle,
+    pub half: Handle,
+}
+
+// 1,025 slots are tried on a store that would be long enough for them, so that it is the limit that refuses them.
+pub fn lay_out(s: &mut Store) {
+    let mut wide = [0u64; 10266];
+    say::text(b"A queue is laid out. Before that no strike can be planned.\n");
+    plan(s, SIX, 6);
+    lay(s, 0, 9);
+    lay(&mut wide, 1_025, 9);
+    lay(s, 6, 9);
+    lay(s, 5, 9);
+}
+
+pub fn plan_all(s: &mut Store) -> Planned {
+    say::text(
+        b"The hour's strikes are planned in no order, seven o'clock with six strokes by mistake.\n",
+    );
+    let seven = plan(s, SEVEN, 6);
+    let quarter = plan(s, FIRST_QUARTER, 1);
+    plan(s, LAST_QUARTER, 3);
+    plan(s, SIX, 6);
+    let half = plan(s, HALF, 2);
+    plan(s, EVENING_BELL, 33);
+    plan(s, MIDNIGHT, 12);
+    let again = plan(s, SEVEN, 7);
+    compare(seven, again);
+    Planned { quarter, half }
+}
+
+// Says whether two handles are the same.
+fn compare(before: Handle, now: Handle) {
+    say::text(b"  its handle: ");
+    if before.slot.0 == now.slot.0 && before.generation.0 == now.generation.0 {
+        say::text(b"the same as before\n");
+    } else {
+        say::text(b"another than before\n");
+    }
+}

@@ -1,0 +1,89 @@
+// Laying out and planning: each call is told in one line, what was asked for and what the queue answered.
+use crate::clock;
+use arena::laying::LaidOut;
+use due::KeyAnswer;
+use handle::Handle;
+use handle::Key;
+use handle::Refusal;
+use handle::Side;
+use insert::place::Inserted;
+use output::say;
+use queue::placing;
+
+// How a strike is placed: by its time, as the only one, or just before another.
+pub enum Way {
+    ByTime,
+    Alone,
+    Before(Handle),
+}
+
+// Lays the store out.
+pub fn lay(s: &mut [u64], slots: u64, top: u64) {
+    say::text(b"  lay out ");
+    say::counted(slots, b"slot");
+    say::text(b" of ");
+    say::counted(top, b"generation");
+    say::text(b" in ");
+    say::counted(s.len() as u64, b"number");
+    say::text(b": ");
+    let answer = placing::lay_out(s, slots, top);
+    match answer {
+        LaidOut::Done => say::text(b"done\n"),
+        LaidOut::Refused(r) => say::refused(r),
+    }
+}
+
+// Plans a strike by its time.
+pub fn plan(s: &mut [u64], second: i64, strokes: u64) -> Handle {
+    plan_so(s, Way::ByTime, second, strokes)
+}
+
+// Plans a strike. Answers its handle, or one that names no strike where the queue refused.
+pub fn plan_so(s: &mut [u64], way: Way, second: i64, strokes: u64) -> Handle {
+    asked(way, second, strokes);
+    let answer = due::key_of(clock::DAY, second, clock::OFFSET);
+    match answer {
+        KeyAnswer::At(k) => told(place(s, way, Key(k), strokes)),
+        KeyAnswer::BadTime => told(Inserted::Refused(Refusal::BadTime)),
+    }
+}
+
+fn asked(way: Way, second: i64, strokes: u64) {
+    say::text(b"  plan ");
+    clock::seconds(second);
+    say::text(b", ");
+    say::counted(strokes, b"stroke");
+    match way {
+        Way::ByTime => {}
+        Way::Alone => say::text(b", as the only strike"),
+        Way::Before(_) => say::text(b", just before a given one"),
+    }
+    say::text(b": ");
+}
+
+fn place(s: &mut [u64], way: Way, key: Key, strokes: u64) -> Inserted {
+    match way {
+        Way::ByTime => placing::insert(s, key, strokes),
+        Way::Alone => placing::insert_empty(s, key, strokes),
+        Way::Before(h) => placing::insert_manual(s, h, Side::Less, key, strokes),
+    }
+}
+
+fn told(answer: Inserted) -> Handle {
+    match answer {
+        Inserted::New(h) => {
+            say::text(b"planned\n");
+            h
+        }
+        Inserted::Replacing(h, old) => {
+            say::text(b"planned already, replaces ");
+            say::counted(old, b"stroke");
+            say::text(b"\n");
+            h
+        }
+        Inserted::Refused(r) => {
+            say::refused(r);
+            Handle::none()
+        }
+    }
+}

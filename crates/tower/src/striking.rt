@@ -1,0 +1,79 @@
+// Taking strikes out, by the sexton or by the clock, and looking at them: each call is told in one line.
+use crate::clock;
+use handle::Handle;
+use output::say;
+use queue::cursor::Cursor;
+use queue::cursor::Moved;
+use queue::looking;
+use queue::taking;
+use remove::reading::Reading;
+use remove::removing::Removed;
+
+// No queue has more strikes.
+const MOST: u64 = 1024;
+
+// Takes out the strike that h names.
+pub fn take(s: &mut [u64], h: Handle) {
+    let answer = taking::remove(s, h);
+    match answer {
+        Removed::Entry(e) => clock::strike(e),
+        Removed::GenerationOverflow(e) => {
+            clock::strike(e);
+            say::text(b"  GenerationOverflow: its slot is retired for good\n");
+        }
+        Removed::Refused(r) => say::refused(r),
+    }
+}
+
+// Reads the strike that h names.
+pub fn read(s: &[u64], h: Handle) {
+    let answer = looking::read(s, h);
+    match answer {
+        Reading::Entry(e) => clock::strike(e),
+        Reading::Refused(r) => say::refused(r),
+    }
+}
+
+// Where a cursor has come to.
+pub fn reached(s: &[u64], m: Moved) {
+    match m {
+        Moved::At(c) => read(s, c.handle),
+        Moved::End => say::text(b"no strike is left\n"),
+        Moved::Refused(r) => say::refused(r),
+    }
+}
+
+// Steps through the queue by the cursor, to its end.
+pub fn step_through(s: &[u64]) {
+    let mut left = MOST;
+    let mut m = Cursor::first(s);
+    while 0 < left {
+        say::text(b"  ");
+        reached(s, m);
+        let Moved::At(c) = m else {
+            break;
+        };
+        m = c.forward(s);
+        left -= 1;
+    }
+}
+
+// Strikes the first strike again and again, till none is left.
+pub fn strike_all(s: &mut [u64]) {
+    let mut left = MOST;
+    while 0 < left {
+        let m = Cursor::first(s);
+        let Moved::At(c) = m else {
+            break;
+        };
+        say::text(b"  strike ");
+        take(s, c.handle);
+        left -= 1;
+    }
+}
+
+// Says which strike is the first now.
+pub fn tell_first(s: &[u64]) {
+    say::text(b"  the next strike: ");
+    reached(s, Cursor::first(s));
+}
