@@ -1,11 +1,10 @@
 -- What placing at a way and replacing at a node do: the answer, the queue after it, and that it stays sound.
 -- A reader may rely on this: every kind of insertion ends in one of the two, or in a refusal that leaves the queue as it stood.
-use mathlib.Core.Path.{_≡_, refl, sym, ap, _∙_, subst}
-use mathlib.Core.List.{List, [], _∷_, _++_, append-assoc}
+use mathlib.Core.Path.{_≡_, refl, sym, ap, _∙_}
+use mathlib.Core.List.{List, [], _∷_, _++_}
 use mathlib.Core.Option.{Option, none, some}
 use Prim.Native.Nat.{ℕ}
-use native.Mathlib.Omega.{arith}
-use Rattle.wavl.specs.Lists.{All, Pairwise, first, last}
+use Rattle.wavl.specs.Lists.{All, first, last}
 use Rattle.wavl.specs.Entry.{Entry, Before, Rising}
 use Rattle.wavl.specs.Tree.{Side, left, right, Tree, tip, fork, inorder}
 use Rattle.wavl.specs.Way.{Way, place, plug, before, after, neighbour, replaceAt}
@@ -15,14 +14,14 @@ use Rattle.wavl.proofs.Lists.{all-both, all-map, put-one, below-one, above-one,
 use Rattle.wavl.proofs.Rule.{ranks→ranked, ranked→ranks}
 use Rattle.wavl.proofs.Order.{insertAt-order, empty-place-order}
 use Rattle.wavl.proofs.Placed.{insertAt-ranks}
+use Rattle.wavl.proofs.Manual.{smallerAt, greaterAt}
 use Rattle.wavl.proofs.Rising.{before-trans, node-around, replaceAt-order, replaceAt-ranks, replaceAt-rising}
-use Rattle.rules.specs.Queue.{Handle, handleOf, entryWith, Queue, entries, Names}
+use Rattle.rules.specs.Queue.{Handle, entryWith, Queue, entries}
 use Rattle.rules.specs.Answers.{Inserted}
 use Rattle.rules.specs.Insert.{addWith, addAt, swapAt, keyed, Beside, Between}
 use Rattle.rules.specs.Sound.{Sound}
-use Rattle.rules.specs.Changes.{SameHeader, Adds, Swaps, AfterInserting}
+use Rattle.rules.specs.Changes.{Adds, Swaps, AfterInserting}
 use Rattle.rules.proofs.Kept.{sound-adds, sound-swaps}
-use Rattle.rules.proofs.Places.{smallerAt, greaterAt}
 
 -- an answer and a queue that insertion may leave
 pub record Inserts (key value : ℕ) (q : Queue) (r : Inserted × Queue) : Type 0 where

@@ -1,20 +1,18 @@
--- The place that a handle names, and the empty place beside a node: what stands before and after them.
+-- The place that a handle names.
 -- A reader may rely on this: on a queue with distinct slots spotOf finds a handle's entry exactly when the handle is live.
-use mathlib.Core.Path.{_≡_, refl, sym, ap, _∙_}
+use mathlib.Core.Path.{_≡_, sym, ap, _∙_}
 use mathlib.Core.Logic.{inl, inr}
 use mathlib.Core.List.{List, [], _∷_, _++_}
-use Prim.Native.Nat.{ℕ}
 use Rattle.wavl.specs.Lists.{In, Once}
 use Rattle.wavl.specs.Entry.{Entry, slots}
-use Rattle.wavl.specs.Tree.{Side, left, right, Tree, tip, fork, inorder}
-use Rattle.wavl.specs.Way.{Way, Place, place, plug, before, after}
-use Rattle.wavl.specs.Search.{locate, besideOf}
+use Rattle.wavl.specs.Tree.{tip, fork, inorder}
+use Rattle.wavl.specs.Way.{Place, place, plug, before, after}
+use Rattle.wavl.specs.Search.{locate}
 use Rattle.wavl.proofs.Lists.{all-in, in-middle, in-slots}
 use Rattle.wavl.proofs.Order.{choose-cases}
 use Rattle.wavl.proofs.Rising.{node-around}
 use Rattle.wavl.proofs.Located.{Spot as SlotAt, locate-right}
-use Rattle.wavl.proofs.Manual.{beside-left, beside-right}
-use Rattle.rules.specs.Queue.{Handle, handleOf, Queue, entries, Names, Live}
+use Rattle.rules.specs.Queue.{Handle, Queue, entries, Names, Live}
 use Rattle.rules.specs.Place.{Spot, nowhere, spot, ofGeneration, spotOf}
 
 -- with distinct slots, two entries with one slot are one
@@ -50,17 +48,3 @@ module _ (h : Handle) (q : Queue) (once : Once (slots (entries q))) where
   pub spot-is : SpotIs h q (spotOf h q)
   unfolding spotOf
   spot-is = of-place (locate (h .slot) (q .tree)) (locate-right (h .slot) (q .tree))
-
--- the entries before and after the place beside a node
-abbrev pub smallerAt : Side → Tree → Entry → Tree → Way → List Entry
-smallerAt left a x b p = before p ++ inorder a
-smallerAt right a x b p = (before p ++ inorder a) ++ (x ∷ [])
-
-abbrev pub greaterAt : Side → Tree → Entry → Tree → Way → List Entry
-greaterAt left a x b p = x ∷ (inorder b ++ after p)
-greaterAt right a x b p = inorder b ++ after p
-
-pub beside-is : (d : Side) (a : Tree) (x : Entry) (r : ℕ) (b : Tree) (p : Way)
-    → (before (besideOf d (place (fork a x r b) p)) ≡ smallerAt d a x b p) × (after (besideOf d (place (fork a x r b) p)) ≡ greaterAt d a x b p)
-beside-is left a x r b p = beside-left a x r b p
-beside-is right a x r b p = beside-right a x r b p

@@ -1,30 +1,29 @@
 -- Each call's answer, for every input and every sound queue: specs/Table holds of it.
 -- A reader may rely on the theorems named CALL-answers; proofs/Refusals draws document 01's table from them.
-use mathlib.Core.Path.{_≡_, refl, sym, ap, _∙_, subst}
-use mathlib.Core.Logic.{_⊎_, inl, inr}
+use mathlib.Core.Path.{_≡_, refl, sym, ap, _∙_}
+use mathlib.Core.Logic.{inl, inr}
 use mathlib.Core.List.{List, [], _∷_, _++_, cons≢nil}
-use mathlib.Core.Option.{Option, none, some}
+use mathlib.Core.Option.{some}
 use Prim.Native.Nat.{ℕ, _<_}
 use native.Mathlib.Decide.{decLt, ℕ-discrete}
-use native.Mathlib.Omega.{arith}
 use Rattle.wavl.specs.Lists.{Once, first, last}
 use Rattle.wavl.specs.Entry.{Entry, slots}
 use Rattle.wavl.specs.Tree.{Side, left, right, Tree, tip, fork, inorder}
-use Rattle.wavl.specs.Way.{Way, Place, place, plug, before, after, neighbour}
+use Rattle.wavl.specs.Way.{Way, Place, place, before, after, neighbour}
 use Rattle.wavl.specs.Search.{search, besideOf}
 use Rattle.wavl.proofs.Lists.{in-middle}
 use Rattle.wavl.proofs.Order.{choose-cases}
 use Rattle.wavl.proofs.Rising.{node-around}
 use Rattle.wavl.proofs.Found.{Searched, search-right}
 use Rattle.wavl.proofs.Chain.{split-unique}
-use Rattle.rules.specs.Queue.{Handle, handleOf, Queue, entries, Holds, Has, Names, Live}
-use Rattle.rules.specs.Answers.{Inserted, new, replacing, notInserted, failedOrdRequirement, Stepped, stands, ends, notStepped}
+use Rattle.rules.specs.Queue.{Handle, handleOf, Queue, Holds, Has, Names, Live}
+use Rattle.rules.specs.Answers.{notInserted, failedOrdRequirement, Stepped, stands, ends, notStepped}
 use Rattle.rules.specs.Place.{Spot, nowhere, spot, spotOf}
 use Rattle.rules.specs.Insert.{Where, less, equal, greater, keyed, Between, decBetween, addWith, addAt, swapAt, addBeside, placeNormal, insertNormal, placeEmpty, insertEmpty, placeManual, insertManual}
 use Rattle.rules.specs.Remove.{noteOf, removeSpot, remove}
 use Rattle.rules.specs.Look.{readSpot, read, standsAt, stepSpot, stepTo}
 use Rattle.rules.specs.Sound.{Sound}
-use Rattle.rules.specs.Table.{NoSlot, NextFree, NormalAnswers, NoEntries, EmptyAnswers, Target, KeyFits, ManualFits, Adding, ManualAnswers, NoteFits, RemoveAnswers, ReadAnswers, Facing, StepAnswers}
+use Rattle.rules.specs.Table.{NormalAnswers, NoEntries, EmptyAnswers, Target, KeyFits, ManualFits, Adding, ManualAnswers, NoteFits, RemoveAnswers, ReadAnswers, Facing, StepAnswers}
 use Rattle.rules.proofs.Places.{SpotIs, same-slot}
 use Rattle.rules.proofs.Removing.{live-once, sound-spot}
 
