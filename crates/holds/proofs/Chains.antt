@@ -7,6 +7,9 @@ use mathlib.Core.List.{List, [], _∷_, _++_}
 use mathlib.Core.Option.{Option, some, none}
 use Rattle.handle.specs.Numbers.{noSlot}
 use Rattle.handle.specs.declared.Handle as H
+use Rattle.arena.specs.Words.{field, PREV}
+use Rattle.arena.specs.Slots.{handleOf}
+use Rattle.chain.specs.declared.Stepped as C
 use Rattle.chain.specs.Steps.{followed, stepFrom, endOf}
 use Rattle.chain.proofs.StepLaws.{follow-none, follow-at}
 use Rattle.wavl.specs.Lists.{In, first, last}
@@ -76,7 +79,9 @@ module _ {s : List ℕ} {q : Queue} (h : Holds s q) where
   link-means (some y) i =
       let j = i y refl in
       let low : y .slot < cap = all-in (Under cap) (slots (entries q)) (live-low (separate-of (sound-of h))) (y .slot) (in-slots y (entries q) j) in
-      rw (follow-at s cap (y .slot) (few-slots (words-of h)) low, live-entry h y j .generation-is)
+      let at : followed s cap (y .slot) ≡ C.the-variants.At (handleOf (y .slot) (y .generation)) =
+      rw (← (live-entry h y j .generation-is)) (follow-at s cap (y .slot) (few-slots (words-of h)) low) in
+      ap stepMeans at
 
   first-in : (l : List Entry) (y : Entry) → first l ≡ some y → In y l
   first-in l y e = let i = first-split l y e in rw (i .1) (inl refl)
@@ -104,7 +109,8 @@ module _ {s : List ℕ} {q : Queue} (h : Holds s q) where
     step-spot : (d : Side) → stepMeans (stepFrom s cap (x .slot) (number d)) ≡ some (standsAt (neighbour d (place (fork a x r b) p)))
     unfolding stepFrom neighbour
     step-spot left =
-        rw (around .prev-is, end-last (before p ++ inorder a), last-slot (before p ++ inorder a))
+        let back : field s cap (x .slot) PREV ≡ endOr noSlot (before p ++ inorder a) = around .prev-is in
+        rw (back, end-last (before p ++ inorder a), last-slot (before p ++ inorder a))
         (link-means (last (before p ++ inorder a)) (λ y f. rw whole (in-left y (before p ++ inorder a) _ (last-in (before p ++ inorder a) y f))))
     step-spot right =
         rw (around .next-is, first-slot (inorder b ++ after p))
