@@ -13,8 +13,8 @@ use Rattle.handle.specs.declared.Refusal.the-variants.{BadLayout}
 use Rattle.arena.specs.Keys.{signed}
 use Rattle.arena.specs.Words.{limit, topLimit, headWords, need, Room, field, put, head, putHead, KEY, RANK, GENERATION, VALUE, STACK, CAPACITY, TOP, HEIGHT}
 use Rattle.arena.specs.Header.{headerOf, Passing, Says}
-use Rattle.arena.specs.Laying.{goodLayout, Good, freshHead, laySlots, laid, layOut}
-use Rattle.arena.specs.Slots.{FoundIn, handleOf, foundAt, peekFrom, peekSlot, popped, takeSlot, freeWith, freeSlot}
+use Rattle.arena.specs.Laying.{blankOf, goodLayout, Good, freshHead, laySlots, laid, layOut}
+use Rattle.arena.specs.Slots.{FoundIn, handleOf, foundAt, peekFrom, peekSlot, popped, takeSlot, pushed, freeWith, freeSlot}
 use Rattle.arena.specs.Entries.{isLive, entryOf}
 use Rattle.arena.specs.declared.header.Header.{Header}
 use Rattle.arena.specs.declared.header.Header.the-variants.{Passes, Fails}
@@ -84,6 +84,12 @@ module _ (s : List ℕ) (cap : ℕ) where
 
     pub found-slot : h .slot .0 < cap
     found-slot = found-as .0
+
+  -- the four steps of a slot's way onto the stack
+  pub push-is : (i h g : ℕ) (t u v w : List ℕ) → t ≡ blankOf s cap i h → u ≡ put t cap i GENERATION (g + 1) → v ≡ put u cap h STACK i → w ≡ putHead v HEIGHT (h + 1)
+      → w ≡ pushed s cap i h g
+  unfolding pushed
+  push-is i h g t u v w a b c d = rw (d, c, b, a)
 
   pub free-reads : (i : ℕ) (x : List ℕ × Freed) (h top g : ℕ) → h ≡ head s HEIGHT → top ≡ head s TOP → g ≡ field s cap i GENERATION
       → x ≡ freeWith s cap i h top g → x ≡ freeSlot s cap i

@@ -1,5 +1,4 @@
-use Rattle.arena.specs.Slots.{pushed}
-use Rattle.arena.proofs.Paths.{paths}
+use Rattle.arena.proofs.Answers.{push-is}
 use borrow.Author.Needs.{needs}
 use Rattle.arena.proofs.slots.push.Statement.{statement}
 use Rattle.arena.proofs.slots.push.Tie as tie
@@ -26,8 +25,7 @@ same-length : tie.Need-same-length
 same-length c = search needs
 
 returns : tie.Need-returns
-unfolding pushed
-returns c = cc
+returns c = search push-is
 
 pub push-spec : {M : Type 1} → statement M
 push-spec =
