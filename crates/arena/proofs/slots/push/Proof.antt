@@ -25,7 +25,12 @@ same-length : tie.Need-same-length
 same-length c = search needs
 
 returns : tie.Need-returns
-returns c = search push-is
+returns c =
+    push-is _ _ _ _ _ _ _ _ _
+    (c .before .before .before .before .before .before .before .before .before .before .before .before .before .before .blank .ensures)
+    (c .before .before .before .before .before .before .before .before .before .before .put .ensures)
+    (c .before .before .before .before .before .before .put2 .ensures)
+    (c .before .before .put-head .ensures)
 
 pub push-spec : {M : Type 1} → statement M
 push-spec =
