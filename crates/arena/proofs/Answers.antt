@@ -13,8 +13,8 @@ use Rattle.handle.specs.declared.Refusal.the-variants.{BadLayout}
 use Rattle.arena.specs.Keys.{signed}
 use Rattle.arena.specs.Words.{limit, topLimit, headWords, need, Room, field, put, head, putHead, KEY, RANK, GENERATION, VALUE, STACK, CAPACITY, TOP, HEIGHT}
 use Rattle.arena.specs.Header.{headerOf, Passing, Says}
-use Rattle.arena.specs.Laying.{goodLayout, Good, freshHead, laySlots, laid, layOut}
-use Rattle.arena.specs.Slots.{FoundIn, handleOf, foundAt, peekFrom, peekSlot, popped, takeSlot, freeWith, freeSlot}
+use Rattle.arena.specs.Laying.{blankOf, goodLayout, Good, freshHead, laySlots, laid, layOut}
+use Rattle.arena.specs.Slots.{FoundIn, handleOf, foundAt, peekFrom, peekSlot, popped, takeSlot, pushed, freeWith, freeSlot}
 use Rattle.arena.specs.Entries.{isLive, entryOf}
 use Rattle.arena.specs.declared.header.Header.{Header}
 use Rattle.arena.specs.declared.header.Header.the-variants.{Passes, Fails}
@@ -25,7 +25,7 @@ use Rattle.arena.specs.declared.slots.Taken as T
 use Rattle.arena.specs.declared.slots.Taken.the-variants.{At, Full}
 use Rattle.arena.specs.declared.slots.Freed.{Freed}
 use Rattle.arena.specs.declared.entries.Entry.{Entry}
-use Rattle.arena.proofs.Paths.{no-refusal, wrote}
+use Rattle.arena.proofs.Paths.{no-refusals, wrote}
 
 -- a handle by its parts
 pub handle-is : (r : Handle) (i g g′ : ℕ) → r .slot ≡ record { 0 = i } → r .generation ≡ record { 0 = g } → g ≡ g′ → r ≡ handleOf i g′
@@ -85,16 +85,18 @@ module _ (s : List ℕ) (cap : ℕ) where
     pub found-slot : h .slot .0 < cap
     found-slot = found-as .0
 
+  -- the four steps of a slot's way onto the stack
+  pub push-is : (i h g : ℕ) (t u v w : List ℕ) → t ≡ blankOf s cap i h → u ≡ put t cap i GENERATION (g + 1) → v ≡ put u cap h STACK i → w ≡ putHead v HEIGHT (h + 1)
+      → w ≡ pushed s cap i h g
+  unfolding pushed
+  push-is i h g t u v w a b c d = rw (d, c, b, a)
+
   pub free-reads : (i : ℕ) (x : List ℕ × Freed) (h top g : ℕ) → h ≡ head s HEIGHT → top ≡ head s TOP → g ≡ field s cap i GENERATION
       → x ≡ freeWith s cap i h top g → x ≡ freeSlot s cap i
   unfolding freeSlot
   free-reads i x h top g e f k p = rw (← e, ← f, ← k) p
 
 module _ (s : List ℕ) (cap : ℕ) (h : Handle) (low : h .slot .0 < cap) (r : ℕ) (e : r ≡ field s cap (h .slot .0) RANK) where
-  pub live-dead : r < 1 → false ≡ isLive s cap h
-  unfolding isLive
-  live-dead l = rw (← e, lt-leb cap (h .slot .0) low, lt-ltb r 1 l)
-
   pub live-asks : 1 ≤ r → (g : ℕ) → g ≡ field s cap (h .slot .0) GENERATION → (t : Bool) → t ≡ eqb g (h .generation .0) → t ≡ isLive s cap h
   unfolding isLive
   live-asks l g f t q = rw (← e, ← f, lt-leb cap (h .slot .0) low, le-ltb r 1 l) q
@@ -107,17 +109,13 @@ entry-reads s cap i r w e k v = λ j. record { key = record { 0 = (k ∙ ap sign
 pub good-yes : (len cap top : ℕ) → goodLayout len cap top ≡ true → Good len cap top
 unfolding goodLayout
 good-yes len cap top t =
-    let a = no-refusal _ _ t in
-    let b = no-refusal _ _ (a .1) in
-    let c = no-refusal _ _ (b .1) in
-    let d = no-refusal _ _ (c .1) in
-    let e = no-refusal _ _ (d .1) in
+    let n = no-refusals _ _ _ _ _ t in
     record {
-      some = ltb-false cap 1 (a .0);
-      few = ltb-false limit cap (b .0);
-      top-some = ltb-false top 1 (c .0);
-      top-few = ltb-false topLimit top (d .0);
-      room = ltb-false len (need cap) (e .0);
+      some = ltb-false cap 1 (n .0);
+      few = ltb-false limit cap (n .1);
+      top-some = ltb-false top 1 (n .2);
+      top-few = ltb-false topLimit top (n .3);
+      room = ltb-false len (need cap) (n .4);
     }
 
 pub good-is : (len cap top : ℕ) → Good len cap top → goodLayout len cap top ≡ true

@@ -85,6 +85,10 @@ module _ (capacity : ℕ) (h : History) (q : Queue) (k : Kept capacity h q) wher
       let m = misses-is key q (searchFor key q) (search-answers key q (k .sound)) in
       (λ a i. m .0 a (i .0, left-holds (i .0) (i .1), i .2), λ n. m .1 (λ i. n (i .0, holds-left (i .0) (i .1), i .2)))
 
+  -- a handle names an entry exactly when it was given and not taken out
+  handle-lives : (g : Handle) → Live g q ↔ (In g (given h) × (¬ In g (gone h)))
+  handle-lives g = (λ l. (live-given g l, λ i. gone-not-live g i l), λ i. given-live g (i .0) (i .1))
+
   -- what the induction carries is what demand 3 says
   pub kept-demand : Demand capacity h q
   kept-demand =
@@ -100,7 +104,7 @@ module _ (capacity : ℕ) (h : History) (q : Queue) (k : Kept capacity h q) wher
         number-left = same;
         handle-reads = λ x i. reading-is (handleOf x) x (left-holds x i) (refl, refl);
         handle-names = λ g i n. let l = given-live g i n in (l .0, holds-left (l .0) (l .1), l .2, reading-is g (l .0) (l .1) (l .2));
-        handle-live = λ g. (λ l. (live-given g l, λ i. gone-not-live g i l), λ i. given-live g (i .0) (i .1));
+        handle-live = handle-lives;
         handle-refused = λ g r. not-live-refused g q s (refused-not-live g r);
         handle-once = k .once;
         conserved = k .count;

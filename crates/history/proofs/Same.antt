@@ -6,7 +6,7 @@ use Prim.Native.Nat.{ℕ}
 use Rattle.wavl.specs.Lists.{All}
 use Rattle.wavl.specs.Entry.{Entry, revalued, slots}
 use Rattle.wavl.proofs.Lists.{all-in, all-of, all-left, all-right, in-slots, slots-append}
-use Rattle.rules.specs.Queue.{Handle, Queue, entries, Names}
+use Rattle.rules.specs.Queue.{Handle, entryWith, Queue, entries, Names}
 use Rattle.rules.specs.Sound.{Sound}
 use Rattle.rules.specs.Changes.{Swaps, Takes}
 use Rattle.rules.proofs.Lists.{once-differ, slots-put}
@@ -44,7 +44,9 @@ takes-same {q} {q′} h x s n c =
 
 pub after-same : (d : Deed) (q q′ : Queue) (l : List Entry) → Sound q → After d q q′ → Shuffled l (entries q) → Shuffled (does d l) (entries q′)
 unfolding does
-after-same (adds h key value) q q′ l s c i = (c .smaller, c .greater, c .now, rw (c .old) at i)
+after-same (adds h key value) q q′ l s c i =
+    let more : Shuffled (entryWith h key value ∷ l) (entries q′) = (c .smaller, c .greater, c .now, rw (c .old) at i) in
+    more
 after-same (replaces h value) q q′ l s c i = rw (← (swaps-same h value (c .old) s (c .named) (c .swaps))) (shuffled-revalue h value l (entries q) i)
 after-same (takesOut h note) q q′ l s c i = rw (← (takes-same h (c .out) s (c .named) (c .takes))) (shuffled-without h l (entries q) i)
 after-same nothing q q′ l s c i = rw c i

@@ -14,6 +14,10 @@ use Rattle.rules.specs.Queue.{Handle, Names}
 use Rattle.rules.proofs.Lists.{in-put, in-drop}
 use Rattle.history.specs.Left.{decNames, revalue, without, Shuffled}
 
+-- an order of no entries has none
+pub shuffled-none : (m : List Entry) → Shuffled [] m → m ≡ []
+shuffled-none m h = h
+
 -- members and number
 pub shuffled-there : (l m : List Entry) → Shuffled l m → (y : Entry) → In y l → In y m
 shuffled-there [] m h y i = absurd i
@@ -21,7 +25,7 @@ shuffled-there (x ∷ l) m h y (inl e) = rw (h .2, e) (in-middle x (h .0) (h .1)
 shuffled-there (x ∷ l) m h y (inr i) = rw (h .2) (in-put y (h .0) x (h .1) (shuffled-there l (h .0 ++ h .1) (h .3) y i))
 
 pub shuffled-back : (l m : List Entry) → Shuffled l m → (y : Entry) → In y m → In y l
-shuffled-back [] m h y i = rw h at i
+shuffled-back [] m h y i = rw (shuffled-none m h) at i
 shuffled-back (x ∷ l) m h y i = go (in-drop y (h .0) x (h .1) (rw (h .2) at i)) (shuffled-back l (h .0 ++ h .1) (h .3) y)
   where
     go : (y ≡ x) ⊎ In y (h .0 ++ h .1) → (In y (h .0 ++ h .1) → In y l) → In y (x ∷ l)
@@ -29,7 +33,7 @@ shuffled-back (x ∷ l) m h y i = go (in-drop y (h .0) x (h .1) (rw (h .2) at i)
     go (inr j) f = inr (f j)
 
 pub shuffled-length : (l m : List Entry) → Shuffled l m → length m ≡ length l
-shuffled-length [] m h = rw h
+shuffled-length [] m h = rw (shuffled-none m h)
 shuffled-length (x ∷ l) m h =
     let i = shuffled-length l (h .0 ++ h .1) (h .3) in
     let j : length (h .0) + length (h .1) ≡ length l = rw (← (length-append (h .0) (h .1))) i in
@@ -43,7 +47,7 @@ module _ (h : Handle) (v : ℕ) where
 
   pub shuffled-revalue : (l m : List Entry) → Shuffled l m → Shuffled (revalue h v l) (revalue h v m)
   unfolding revalue
-  shuffled-revalue [] m s = rw s
+  shuffled-revalue [] m s = rw (shuffled-none m s)
   shuffled-revalue (x ∷ l) m s =
       let a = s .0 in
       let b = s .1 in
@@ -92,7 +96,7 @@ module _ (h : Handle) where
 
   pub shuffled-without : (l m : List Entry) → Shuffled l m → Shuffled (without h l) (without h m)
   unfolding without
-  shuffled-without [] m s = rw s
+  shuffled-without [] m s = rw (shuffled-none m s)
   shuffled-without (x ∷ l) m s = go (decNames h x) (shuffled-without l (s .0 ++ s .1) (s .3))
     where
       go : Dec (Names h x) → Shuffled (without h l) (without h (s .0 ++ s .1)) → Shuffled (without h (x ∷ l)) (without h m)

@@ -13,7 +13,7 @@ use Rattle.wavl.specs.Lists.{In}
 use Rattle.wavl.specs.Entry.{slots}
 use Rattle.wavl.specs.Tree.{left, Tree, tip, fork, inorder}
 use Rattle.wavl.specs.Way.{step, Way, plug}
-use Rattle.wavl.proofs.Order.{IsFork, plug-same}
+use Rattle.wavl.proofs.Order.{IsFork}
 use Rattle.holds.specs.Ends.{topSlot, number}
 use Rattle.holds.specs.Links.{Links, TreeWords}
 use Rattle.holds.specs.Ways.{parent, sideIn}
@@ -88,6 +88,3 @@ module _ (s s₁ : List ℕ) (cap : ℕ) (l : List ℕ) (p : Way) (x y : Tree) (
           let m = number-small c in
           only-child cap (LinkOf l) IsRoot s₁ (e .slot) (number c) (topSlot y) m
           (λ z. record { slot-in = i (e .slot) (inl refl); field-is = record { from = omega arith; to = omega arith } }) (λ z. refl)
-
-  pub same-whole : inorder (plug y p) ≡ inorder (plug x p)
-  same-whole = plug-same p y x same

@@ -1,26 +1,28 @@
 -- The chain of the words around an entry, and what a step and an end mean on a store that holds a queue.
 -- A reader may rely on: step-means, over the side, first-means and last-means; chain-at, for an entry anywhere in the chain.
 use Prim.Native.Nat.{ℕ, _+_, _<_}
-use mathlib.Core.Path.{_≡_, refl, sym, ap, _∙_}
+use mathlib.Core.Path.{_≡_, refl, ap}
 use mathlib.Core.Logic.{inl, inr}
 use mathlib.Core.List.{List, [], _∷_, _++_}
 use mathlib.Core.Option.{Option, some, none}
 use Rattle.handle.specs.Numbers.{noSlot}
 use Rattle.handle.specs.declared.Handle as H
+use Rattle.arena.specs.Words.{field, PREV}
+use Rattle.arena.specs.Slots.{handleOf}
+use Rattle.chain.specs.declared.Stepped as C
 use Rattle.chain.specs.Steps.{followed, stepFrom, endOf}
 use Rattle.chain.proofs.StepLaws.{follow-none, follow-at}
 use Rattle.wavl.specs.Lists.{In, first, last}
 use Rattle.wavl.specs.Entry.{Entry, slots}
-use Rattle.wavl.specs.Tree.{Side, left, right, Tree, fork, inorder}
-use Rattle.wavl.specs.Way.{Way, place, before, after, neighbour, plug}
+use Rattle.wavl.specs.Tree.{Side, left, right, Tree, fork}
+use Rattle.wavl.specs.Way.{Way, place, neighbour, plug}
 use Rattle.wavl.proofs.Lists.{all-in, in-left, in-right, in-middle, in-slots, first-split, last-split}
-use Rattle.wavl.proofs.Rising.{node-around}
 use Rattle.rules.specs.Queue.{Queue, entries, Names}
 use Rattle.rules.specs.Place.{Spot, nowhere, spot, spotOf}
 use Rattle.rules.specs.Sound.{Under}
 use Rattle.rules.specs.Look as Look
 use Rattle.rules.specs.Look.{standsAt, stepTo, stepSpot}
-use Rattle.rules.proofs.Places.{SpotIs, spot-is}
+use Rattle.rules.proofs.Places.{smallerOf, greaterOf, entries-around, SpotIs, spot-is}
 use Rattle.rules.proofs.Removing.{live-once}
 use Rattle.holds.specs.Ends.{firstSlot, lastSlot, number}
 use Rattle.holds.specs.Chain.{Between, Chain}
@@ -76,7 +78,9 @@ module _ {s : List ℕ} {q : Queue} (h : Holds s q) where
   link-means (some y) i =
       let j = i y refl in
       let low : y .slot < cap = all-in (Under cap) (slots (entries q)) (live-low (separate-of (sound-of h))) (y .slot) (in-slots y (entries q) j) in
-      rw (follow-at s cap (y .slot) (few-slots (words-of h)) low, live-entry h y j .generation-is)
+      let at : followed s cap (y .slot) ≡ C.the-variants.At (handleOf (y .slot) (y .generation)) =
+      rw (← (live-entry h y j .generation-is)) (follow-at s cap (y .slot) (few-slots (words-of h)) low) in
+      ap stepMeans at
 
   first-in : (l : List Entry) (y : Entry) → first l ≡ some y → In y l
   first-in l y e = let i = first-split l y e in rw (i .1) (inl refl)
@@ -94,21 +98,22 @@ module _ {s : List ℕ} {q : Queue} (h : Holds s q) where
   last-means = rw (h .rule-3 .last-is, last-slot (entries q)) (link-means (last (entries q)) (last-in (entries q)))
 
   module _ (a : Tree) (x : Entry) (r : ℕ) (b : Tree) (p : Way) (e : plug (fork a x r b) p ≡ q .tree) where
-    whole : entries q ≡ (before p ++ inorder a) ++ (x ∷ (inorder b ++ after p))
-    whole = ap inorder (sym e) ∙ node-around a x r b p
+    whole : entries q ≡ smallerOf a p ++ (x ∷ greaterOf b p)
+    whole = entries-around q a x r b p e
 
-    around : Between s cap (endOr noSlot (before p ++ inorder a)) (x .slot) (firstSlot (inorder b ++ after p))
-    around = chain-at s cap (before p ++ inorder a) x (inorder b ++ after p) noSlot (rw whole at (h .rule-3 .chain))
+    around : Between s cap (endOr noSlot (smallerOf a p)) (x .slot) (firstSlot (greaterOf b p))
+    around = chain-at s cap (smallerOf a p) x (greaterOf b p) noSlot (rw whole at (h .rule-3 .chain))
 
     -- "a chain cursor steps forward or back and is handed back moved, by handle; at an end the answer is End"
     step-spot : (d : Side) → stepMeans (stepFrom s cap (x .slot) (number d)) ≡ some (standsAt (neighbour d (place (fork a x r b) p)))
     unfolding stepFrom neighbour
     step-spot left =
-        rw (around .prev-is, end-last (before p ++ inorder a), last-slot (before p ++ inorder a))
-        (link-means (last (before p ++ inorder a)) (λ y f. rw whole (in-left y (before p ++ inorder a) _ (last-in (before p ++ inorder a) y f))))
+        let back : field s cap (x .slot) PREV ≡ endOr noSlot (smallerOf a p) = around .prev-is in
+        rw (back, end-last (smallerOf a p), last-slot (smallerOf a p))
+        (link-means (last (smallerOf a p)) (λ y f. rw whole (in-left y (smallerOf a p) _ (last-in (smallerOf a p) y f))))
     step-spot right =
-        rw (around .next-is, first-slot (inorder b ++ after p))
-        (link-means (first (inorder b ++ after p)) (λ y f. rw whole (in-right y (before p ++ inorder a) _ (inr (first-in (inorder b ++ after p) y f)))))
+        rw (around .next-is, first-slot (greaterOf b p))
+        (link-means (first (greaterOf b p)) (λ y f. rw whole (in-right y (smallerOf a p) _ (inr (first-in (greaterOf b p) y f)))))
 
   pub step-means : (k : H.Handle) (x : Entry) → In x (entries q) → Names (plain k) x → (d : Side)
       → stepMeans (stepFrom s cap (k .slot .0) (number d)) ≡ some (stepTo d (plain k) q)

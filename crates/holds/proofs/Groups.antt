@@ -21,7 +21,7 @@ use Rattle.holds.specs.Free.{Blank, FreeWords, FreeStack, Retired, AllRe
 use Rattle.holds.specs.Holds.{Unused}
 use Rattle.holds.specs.Writes.{Only}
 use Rattle.holds.proofs.Has.{Has}
-use Rattle.holds.proofs.Trees.{LinkField, SameLinks, links-keep, Touch, Away}
+use Rattle.holds.proofs.Trees.{LinkField, SameLinks, links-keep}
 
 module _ (s t : List ℕ) (cap : ℕ) (W : ℕ → ℕ → Type 0) (H : ℕ → Type 0) (o : Only s t cap W H) where
   -- the header
@@ -40,12 +40,6 @@ module _ (s t : List ℕ) (cap : ℕ) (W : ℕ → ℕ → Type 0) (H : ℕ → 
 
   pub tree-stays : (x : Tree) → ¬ (H ROOT) → ((j g : ℕ) → Has j x → LinkField g → ¬ (W j g)) → TreeWords s cap x → TreeWords t cap x
   tree-stays x h n w = record { root = o .heads ROOT (lit< tt) h ∙ w .root; links = links-stay x _ n (w .links) }
-
-  pub touches : (i : ℕ) → ((j g : ℕ) → LinkField g → W j g → j ≡ i) → Touch s t cap i
-  touches i f j l n = same-links j l (λ g k w. n (f j g k w))
-
-  pub stays-away : (x : Tree) → ((j g : ℕ) → LinkField g → W j g → Has j x) → Away s t cap x
-  stays-away x f j l n = same-links j l (λ g k w. n (f j g k w))
 
   -- the chain
   chain-links : (l : List Entry) (p : ℕ) → All (Under cap) (slots l) → ((j : ℕ) → In j (slots l) → ¬ (W j PREV) × ¬ (W j NEXT)) → Chain s cap p l → Chain t cap p l

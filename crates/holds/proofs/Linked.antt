@@ -96,11 +96,6 @@ joined-unlinks s cap a b room = record {
   others = joined-field s cap a b;
 }
 
--- the ends of a chain with more in it
-first-of : (l m : List Entry) → firstSlot (l ++ m) ≡ firstOr (firstSlot m) l
-first-of [] m = refl
-first-of (e ∷ l) m = refl
-
 -- the last of a part lies in the store, or there is none
 last-low : (cap : ℕ) (l : List Entry) → All (Under cap) (slots l) → (l ≡ []) ⊎ (lastSlot l < cap)
 last-low cap [] u = inl refl

@@ -9,8 +9,7 @@ use native.Mathlib.Decide.{decLt}
 use native.Mathlib.Omega.{arith}
 use borrow.Author.Tests.{le-ltb, eq-eqb, ne-eqb, le-leb, lt-leb}
 use Rattle.handle.specs.declared.Handle as H
-use Rattle.arena.specs.Branch.{ifte}
-use Rattle.arena.specs.Words.{field, KEY, RANK, GENERATION, VALUE}
+use Rattle.arena.specs.Words.{field, RANK, GENERATION}
 use Rattle.arena.specs.Keys.{signed}
 use Rattle.arena.specs.Entries.{isLive, entryOf}
 use Rattle.wavl.specs.Lists.{In}
@@ -20,8 +19,6 @@ use Rattle.wavl.specs.Way.{Way, plug, before, after}
 use Rattle.wavl.proofs.Lists.{all-in, in-middle}
 use Rattle.wavl.proofs.Rising.{node-around}
 use Rattle.rules.specs.Queue.{Queue, entries, Names, Live}
-use Rattle.rules.specs.Answers.{reads, notRead, invalidPtr}
-use Rattle.rules.specs.Look.{read, readSpot}
 use Rattle.rules.specs.Place.{Spot, nowhere, spot, spotOf}
 use Rattle.rules.proofs.Places.{SpotIs, spot-is}
 use Rattle.rules.proofs.Removing.{live-once}
@@ -111,16 +108,3 @@ module _ {s : List ℕ} {q : Queue} (k : Holds s q) where
       → entryOf s cap (h .slot .0) ≡ record { key = record { 0 = signed (x .key) }; value = x .value }
   unfolding entryOf
   entry-at h x i n = let w = live-entry x i in rw (← n .0, w .key-is, w .value-is)
-
-  -- the reading of crate `rules`, by the words
-  pub read-is : (h : H.Handle) → read (plain h) q ≡ ifte (isLive s cap h) (reads (field s cap (h .slot .0) KEY) (field s cap (h .slot .0) VALUE)) (notRead invalidPtr)
-  unfolding read readSpot
-  read-is h = go (spotOf (plain h) q) (spot-is (plain h) q (live-once (sound-of k)))
-    where
-      go : (w : Spot) → SpotIs (plain h) q w
-          → readSpot w ≡ ifte (isLive s cap h) (reads (field s cap (h .slot .0) KEY) (field s cap (h .slot .0) VALUE)) (notRead invalidPtr)
-      go nowhere f = rw (unnamed h f)
-      go (spot a x r b p) f =
-          let i = spot-in a x r b p (f .1) in
-          let w = live-entry x i in
-          rw (named-live h x i (f .0), ← f .0 .0, w .key-is, w .value-is)

@@ -13,7 +13,7 @@ use Rattle.arena.proofs.Laws.{length-put, field-same, field-off}
 use Rattle.chain.proofs.Keeps.{room-put}
 use Rattle.tree.specs.Links.{withBack, withNode}
 use Rattle.wavl.specs.Entry.{Entry}
-use Rattle.wavl.specs.Tree.{Side, left, right, Tree, tip, fork, node}
+use Rattle.wavl.specs.Tree.{Side, left, Tree, tip, fork, node}
 use Rattle.holds.specs.Ends.{topSlot, number}
 use Rattle.holds.specs.Links.{Node, Links}
 use Rattle.holds.proofs.Has.{Distinct, apart}
@@ -60,11 +60,6 @@ module _ (s : List ℕ) (cap d back near i r far : ℕ) (hd : d ≤ 1) (room : R
     far-is = off RANK (RIGHT - d) (omega arith) (omega arith) (λ e. omega arith) ∙ N .far-is;
     rank-is = field-same s cap i RANK v (N .low) (omega arith) room;
   }
-
--- a node seen from the other side
-pub node-flip : (s : List ℕ) (cap back near i r far : ℕ) (d : Side) → Node s cap (number d) back near i r far → Node s cap (1 - number d) back far i r near
-node-flip s cap back near i r far left n = record { low = n .low; back-is = n .back-is; near-is = n .far-is; far-is = n .near-is; rank-is = n .rank-is }
-node-flip s cap back near i r far right n = record { low = n .low; back-is = n .back-is; near-is = n .far-is; far-is = n .near-is; rank-is = n .rank-is }
 
 -- a node written whole
 module _ (s : List ℕ) (cap d i back near far rank : ℕ) (hd : d ≤ 1) (hi : i < cap) where

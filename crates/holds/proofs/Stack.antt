@@ -34,7 +34,8 @@ module _ (s : List ℕ) (cap : ℕ) (h : Handle) (l : List Handle) (few : suc (l
   peek-first =
       let a : 1 ≤ suc (length l) = omega arith in
       let m : suc (length l) - 1 ≡ length l = omega arith in
-      rw (w .height, le-ltb (suc (length l)) 1 a, le-ltb cap (suc (length l)) few, m, w .stacked .0 .stack-is, lt-leb cap (h .slot) low, w .stacked .0 .generation-is)
+      let i : field s cap (length l) STACK ≡ h .slot = w .stacked .0 .stack-is in
+      rw (w .height, le-ltb (suc (length l)) 1 a, le-ltb cap (suc (length l)) few, m, i, lt-leb cap (h .slot) low, w .stacked .0 .generation-is)
 
   pub take-first : takeSlot s cap ≡ (popped s cap (length l), T.the-variants.At (handleOf (h .slot) (h .generation)))
   unfolding takeSlot

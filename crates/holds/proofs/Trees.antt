@@ -11,7 +11,7 @@ use Rattle.wavl.specs.Entry.{Entry, slots}
 use Rattle.wavl.specs.Tree.{Side, left, right, Tree, tip, fork, node, inorder}
 use Rattle.holds.specs.Ends.{topSlot, number}
 use Rattle.holds.specs.Links.{Node, Links}
-use Rattle.holds.proofs.Has.{Has, Distinct, apart, has-cases, has-top, has-near, has-far}
+use Rattle.holds.proofs.Has.{Has, has-cases, has-top, has-near, has-far}
 
 pub number-small : (d : Side) → number d ≤ 1
 number-small left = omega arith
@@ -81,37 +81,5 @@ module _ (s t : List ℕ) (cap : ℕ) where
   pub carry-node : (i : ℕ) → Touch i → (d back near j r far : ℕ) → d ≤ 1 → ¬ (j ≡ i) → Node s cap d back near j r far → Node t cap d back near j r far
   carry-node i T d back near j r far hd n x = node-keep d back near j r far hd (T j (x .low) n) x
 
-  -- only slots of x are written: a tree apart from x stays
-  abbrev pub Away : Tree → Type 0
-  Away x = (j : ℕ) → j < cap → ¬ (Has j x) → SameLinks s t cap j
-
-  pub carry-away : (x y : Tree) → Away x → (back : ℕ) → ((j : ℕ) → Has j y → ¬ (Has j x)) → Links s cap back y → Links t cap back y
-  carry-away x y k back n = links-keep y back (λ j low h. k j low (n j h))
-
-  -- a tree below another back link: the top's BACK alone is another
-  pub links-back : (x : Tree) (back new : ℕ) → Distinct x → ((j : ℕ) → j < cap → Has j x → ¬ (j ≡ topSlot x) → SameLinks s t cap j)
-      → ((g : ℕ) → LinkField g → ¬ (g ≡ BACK) → topSlot x < cap → field t cap (topSlot x) g ≡ field s cap (topSlot x) g)
-      → (topSlot x < cap → field t cap (topSlot x) BACK ≡ new) → Links s cap back x → Links t cap new x
-  links-back tip back new d k m n l = tt
-  links-back (fork a e r b) back new d k m n l =
-      let p = apart a e r b left d in
-      let low : e .slot < cap = l .0 .low in (
-        record {
-          low = low;
-          back-is = n low;
-          near-is = m LEFT (record { from = omega arith; to = omega arith }) (λ z. omega arith) low ∙ l .0 .near-is;
-          far-is = m RIGHT (record { from = omega arith; to = omega arith }) (λ z. omega arith) low ∙ l .0 .far-is;
-          rank-is = m RANK (record { from = omega arith; to = omega arith }) (λ z. omega arith) low ∙ l .0 .rank-is;
-        },
-        links-keep a (e .slot) (λ j lj h. k j lj (has-near a e r b left j h) (λ z. p .near (rw z at h))) (l .1),
-        links-keep b (e .slot) (λ j lj h. k j lj (has-far a e r b left j h) (λ z. p .far (rw z at h))) (l .2),
-      )
-
 pub touch-trans : (s t u : List ℕ) (cap i : ℕ) → Touch s t cap i → Touch t u cap i → Touch s u cap i
 touch-trans s t u cap i f g j low n w k = g j low n w k ∙ f j low n w k
-
-pub away-trans : (s t u : List ℕ) (cap : ℕ) (x : Tree) → Away s t cap x → Away t u cap x → Away s u cap x
-away-trans s t u cap x f g j low n w k = g j low n w k ∙ f j low n w k
-
-pub away-touch : (s t : List ℕ) (cap i : ℕ) (x : Tree) → Has i x → Touch s t cap i → Away s t cap x
-away-touch s t cap i x h f j low n = f j low (λ e. n (rw e h))

@@ -1,7 +1,7 @@
 -- A value replaced: the word VALUE of a live slot is written, and the store holds the queue with the new value.
 -- A reader may rely on: new-value, for the node of any entry.
 use Prim.Native.Nat.{ℕ, _<_}
-use mathlib.Core.Path.{_≡_, refl, sym, ap, _∙_}
+use mathlib.Core.Path.{_≡_, refl, sym, _∙_}
 use mathlib.Core.Logic.{inl}
 use mathlib.Core.List.{List, [], _∷_, _++_}
 use native.Mathlib.Omega.{arith}
@@ -11,12 +11,13 @@ use Rattle.arena.proofs.Laws.{field-same}
 use Rattle.wavl.specs.Lists.{All, In, Differ, Once}
 use Rattle.wavl.specs.Entry.{Entry, revalued, slots}
 use Rattle.wavl.specs.Tree.{Tree, fork, inorder}
-use Rattle.wavl.specs.Way.{Way, plug, before, after}
+use Rattle.wavl.specs.Way.{Way, plug}
 use Rattle.wavl.proofs.Lists.{all-left, all-right, all-both, all-in, in-left, in-right, below-one, above-one, pairwise-left}
 use Rattle.wavl.proofs.Rising.{node-around}
 use Rattle.rules.specs.Queue.{Queue, entries}
 use Rattle.rules.specs.Sound.{freeSlots, usedSlots, Under}
 use Rattle.rules.proofs.Lists.{slots-put}
+use Rattle.rules.proofs.Places.{smallerOf, greaterOf, entries-around}
 use Rattle.holds.specs.Ends.{firstSlot, lastSlot}
 use Rattle.holds.specs.Chain.{Chain, ChainWords}
 use Rattle.holds.specs.Entries.{EntryWords, AllEntries}
@@ -65,16 +66,16 @@ module _ {s : List ℕ} {q : Queue} (d : Separate q) (w : Words s q) (a : Tree) 
   i = x .slot
 
   abbrev l : List Entry
-  l = before p ++ inorder a
+  l = smallerOf a p
 
   abbrev m : List Entry
-  m = inorder b ++ after p
+  m = greaterOf b p
 
   abbrev t : List ℕ
   t = put s cap i VALUE v
 
   whole : entries q ≡ l ++ (x ∷ m)
-  whole = ap inorder (sym e) ∙ node-around a x r b p
+  whole = entries-around q a x r b p e
 
   whole-new : inorder (plug (fork a (revalued v x) r b) p) ≡ l ++ (revalued v x ∷ m)
   whole-new = node-around a (revalued v x) r b p

@@ -11,7 +11,7 @@ use Rattle.wavl.specs.Way.{step, Way, plug}
 use Rattle.holds.specs.Ends.{topSlot}
 use Rattle.holds.specs.Links.{Links, TreeWords}
 use Rattle.holds.specs.Ways.{parent, Hook, LinksWay}
-use Rattle.holds.proofs.Has.{Has, Distinct, apart, has-cases, has-top, has-near, has-far}
+use Rattle.holds.proofs.Has.{Has, Distinct, apart, has-top, has-near, has-far}
 use Rattle.holds.proofs.Trees.{opened, closed}
 
 -- the parts of a whole tree at a place
@@ -70,21 +70,6 @@ has-way j [] t h = absurd h
 has-way j (step d e r u ∷ p) t (inl h) = has-plug j p (node d t e r u) (has-top t e r u d j h)
 has-way j (step d e r u ∷ p) t (inr (inl h)) = has-plug j p (node d t e r u) (has-far t e r u d j h)
 has-way j (step d e r u ∷ p) t (inr (inr h)) = has-way j p (node d t e r u) h
-
--- every slot of the whole is the part's or the way's
-pub has-parts : (j : ℕ) (p : Way) (t : Tree) → Has j (plug t p) → Has j t ⊎ HasWay j p
-unfolding plug
-has-parts j [] t h = inl h
-has-parts j (step d e r u ∷ p) t h = go (has-parts j p (node d t e r u) h)
-  where
-    split : (j ≡ e .slot) ⊎ (Has j t ⊎ Has j u) → Has j t ⊎ HasWay j (step d e r u ∷ p)
-    split (inl x) = inr (inl x)
-    split (inr (inl x)) = inl x
-    split (inr (inr x)) = inr (inr (inl x))
-
-    go : Has j (node d t e r u) ⊎ HasWay j p → Has j t ⊎ HasWay j (step d e r u ∷ p)
-    go (inl x) = split (has-cases t e r u d j x)
-    go (inr x) = inr (inr (inr x))
 
 -- and of one only
 pub way-apart : (p : Way) (t : Tree) → Distinct (plug t p) → (j : ℕ) → Has j t → ¬ (HasWay j p)

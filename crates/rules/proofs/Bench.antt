@@ -1,6 +1,6 @@
 -- Document 01's starred runs, computed: one theorem over the one table of specs/Bench.
 -- A reader may rely on this: every row comes out as it is written there.
-use mathlib.Core.Path.{_≡_, refl}
+use mathlib.Core.Path.{refl}
 use native.Mathlib.Decide.{decLe, decLt, ℕ-discrete}
 use Rattle.wavl.specs.Lists.{choose, first, last}
 use Rattle.wavl.specs.Tree.{inorder, size}

@@ -1,14 +1,14 @@
 -- Moments, the seconds from 1970-01-01 at offset 0: day and second are the floor and the remainder of a moment, they
 -- undo each other for all signed numbers, and the order of local times is that of their moments. Due keys are made of
 -- moments, so DueTimes rests on this module, and a change to how a key is made leaves it alone. Assumes nothing.
-use mathlib.Core.Path.{_≡_, refl, sym, ap, _∙_}
+use mathlib.Core.Path.{_≡_, refl, ap}
 use mathlib.Core.Bool.{Bool, true, false}
-use Prim.Native.Nat.{ℕ, _+_, _*_, _≤_, _<_}
+use Prim.Native.Nat.{_+_, _*_, _<_}
 use native.Mathlib.Omega.{arith}
-use lib.Dec.{T, lit<}
-use lib.IntN.{ℤ, pos, _+ℤ_, _-ℤ_, _*ℤ_}
-use lib.Signed.{ltZ, _≤ℤ_, _<ℤ_}
-use Rattle.rules.specs.DueFloor.{Floored, floorDiv, floorMod}
+use lib.Dec.{lit<}
+use lib.IntN.{ℤ, pos, _+ℤ_, _*ℤ_}
+use lib.Signed.{ltZ, _<ℤ_}
+use Rattle.rules.specs.DueFloor.{Floored}
 use Rattle.rules.specs.Due.{within, Between, Before, earlierDay, sameDay, dayLow, dayHigh, secondLow, secondHigh, secondsADay, momentOf, dayOf, secondOf}
 use Rattle.rules.proofs.DueSigns.{up, down, apart, equal, sum-law, diff-law, up-times, down-times, le-out, le-in, lt-out, lt-in, ltZ-false, true→yes}
 use Rattle.rules.proofs.DueFloors.{floored, floored-out, floored-in, floored-one}

@@ -1,14 +1,11 @@
 -- The tests of ranges and the facts that they decide, for the theorems of DueTimes and the proofs of the crate `due`.
 -- A reader needs nothing of it. Assumes nothing.
-use mathlib.Core.Path.{_≡_, refl, sym, ap, _∙_}
+use mathlib.Core.Path.{_≡_, refl, sym}
 use mathlib.Core.Bool.{Bool, true, false, _&&_}
-use Prim.Native.Nat.{ℕ, suc, _+_, _*_, _≤_, _<_}
-use native.Mathlib.Omega.{arith}
-use lib.Dec.{T}
-use lib.IntN.{ℤ, pos, negsuc, _+ℤ_, _-ℤ_, _*ℤ_}
-use lib.Signed.{leZ, mag, _≤ℤ_}
+use lib.IntN.{ℤ}
+use lib.Signed.{leZ}
 use Rattle.rules.specs.Due.{within, Between, GoodTime, goodDay, goodSecond, goodOffset}
-use Rattle.rules.proofs.DueSigns.{up, down, sum-law, diff-law, up-times, down-times, le-out, le-in, yes→true, true→yes, leZ-true}
+use Rattle.rules.proofs.DueSigns.{yes→true, true→yes}
 
 -- ---- tests joined by &&
 

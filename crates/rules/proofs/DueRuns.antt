@@ -2,7 +2,6 @@
 -- ends of each range with the number one past it. Assumes nothing.
 use mathlib.Core.Path.{_≡_, refl}
 use mathlib.Core.List.{List, [], _∷_, map}
-use Prim.Native.Nat.{ℕ}
 use lib.IntN.{ℤ, pos}
 use Rattle.rules.specs.Due.{minus, within, momentOf, dayOf, secondOf, KeyFound, keyIs, noKey, TimeFound, timeIs, noTime, toKey, fromKey}
 use Rattle.rules.specs.DueFloor.{floorDiv, floorMod}

@@ -3,11 +3,11 @@
 -- they need and leave ℤ here. Assumes nothing.
 use mathlib.Core.Path.{_≡_, refl, sym, ap, _∙_}
 use mathlib.Core.Bool.{Bool, true, false, cond}
-use Prim.Native.Nat.{ℕ, zero, suc, _+_, _*_, _-_, _/_, _%_, _≤_, _<_, min}
+use Prim.Native.Nat.{ℕ, zero, suc, _+_, _*_, _-_, _≤_, _<_, min}
 use native.Mathlib.Omega.{arith}
-use lib.Dec.{T, ltb, leb}
+use lib.Dec.{T, leb, ltb}
 use lib.IntN.{ℤ, pos, negsuc, negℤ, subℕ, _+ℤ_, _-ℤ_, _*ℤ_}
-use lib.Signed.{leZ, ltZ, mag, quotZ, remZ, _≤ℤ_, _<ℤ_}
+use lib.Signed.{leZ, ltZ, _≤ℤ_, _<ℤ_}
 use borrow.Author.Tests.{ltb-true, ltb-false, leb-true, leb-false, le-leb, lt-leb, lt-ltb}
 
 abbrev pub up : ℤ → ℕ
@@ -79,56 +79,41 @@ yes→true false h = absurd h
 pub true→yes : {t : Bool} → t ≡ true → T t
 true→yes e = rw e tt
 
-pub leZ-true : (a b : ℤ) → leZ a b ≡ true → up a + down b ≤ up b + down a
-leZ-true (pos a) (pos b) e = omega (arith, leb-true a b e)
-leZ-true (pos a) (negsuc b) e = absurd (true→yes e)
-leZ-true (negsuc a) (pos b) e = omega arith
-leZ-true (negsuc a) (negsuc b) e = omega (arith, leb-true b a e)
+-- two tests of one difference give one answer
+same-test : (a b m n : ℕ) → a + n ≡ b + m → leb a b ≡ leb m n
+same-test a b m n h = go (leb m n) refl
+  where
+    go : (t : Bool) → leb m n ≡ t → leb a b ≡ t
+    go true e = let l = leb-true m n e in le-leb a b (omega arith)
+    go false e = let l = leb-false m n e in lt-leb a b (omega arith)
 
-pub leZ-false : (a b : ℤ) → leZ a b ≡ false → up b + down a < up a + down b
-leZ-false (pos a) (pos b) e = omega (arith, leb-false a b e)
-leZ-false (pos a) (negsuc b) e = omega arith
-leZ-false (negsuc a) (pos b) e = absurd (true→yes (sym e))
-leZ-false (negsuc a) (negsuc b) e = omega (arith, leb-false b a e)
+-- so the signed tests are tests of naturals
+leZ-is : (a b : ℤ) → leZ a b ≡ leb (up a + down b) (up b + down a)
+leZ-is (pos a) (pos b) = same-test a b (a + 0) (b + 0) (omega arith)
+leZ-is (pos a) (negsuc b) = sym (lt-leb (a + suc b) (0 + 0) (omega arith))
+leZ-is (negsuc a) (pos b) = sym (le-leb (0 + 0) (b + suc a) (omega arith))
+leZ-is (negsuc a) (negsuc b) = same-test b a (0 + suc b) (0 + suc a) (omega arith)
 
-pub le-leZ : (a b : ℤ) → up a + down b ≤ up b + down a → leZ a b ≡ true
-le-leZ (pos a) (pos b) h = le-leb a b (omega arith)
-le-leZ (pos a) (negsuc b) h = absurd (omega arith)
-le-leZ (negsuc a) (pos b) h = refl
-le-leZ (negsuc a) (negsuc b) h = le-leb b a (omega arith)
-
-pub lt-leZ : (a b : ℤ) → up b + down a < up a + down b → leZ a b ≡ false
-lt-leZ (pos a) (pos b) h = lt-leb a b (omega arith)
-lt-leZ (pos a) (negsuc b) h = refl
-lt-leZ (negsuc a) (pos b) h = absurd (omega arith)
-lt-leZ (negsuc a) (negsuc b) h = lt-leb b a (omega arith)
+ltZ-is : (a b : ℤ) → ltZ a b ≡ ltb (up a + down b) (up b + down a)
+ltZ-is (pos a) (pos b) = same-test (suc a) b (suc (a + 0)) (b + 0) (omega arith)
+ltZ-is (pos a) (negsuc b) = sym (lt-leb (suc (a + suc b)) (0 + 0) (omega arith))
+ltZ-is (negsuc a) (pos b) = sym (lt-ltb (0 + 0) (b + suc a) (omega arith))
+ltZ-is (negsuc a) (negsuc b) = same-test (suc b) a (suc (0 + suc b)) (0 + suc a) (omega arith)
 
 pub ltZ-true : (a b : ℤ) → ltZ a b ≡ true → up a + down b < up b + down a
-ltZ-true (pos a) (pos b) e = omega (arith, ltb-true a b e)
-ltZ-true (pos a) (negsuc b) e = absurd (true→yes e)
-ltZ-true (negsuc a) (pos b) e = omega arith
-ltZ-true (negsuc a) (negsuc b) e = omega (arith, ltb-true b a e)
+ltZ-true a b e = ltb-true _ _ (sym (ltZ-is a b) ∙ e)
 
 pub ltZ-false : (a b : ℤ) → ltZ a b ≡ false → up b + down a ≤ up a + down b
-ltZ-false (pos a) (pos b) e = omega (arith, ltb-false a b e)
-ltZ-false (pos a) (negsuc b) e = omega arith
-ltZ-false (negsuc a) (pos b) e = absurd (true→yes (sym e))
-ltZ-false (negsuc a) (negsuc b) e = omega (arith, ltb-false b a e)
-
-pub lt-ltZ : (a b : ℤ) → up a + down b < up b + down a → ltZ a b ≡ true
-lt-ltZ (pos a) (pos b) h = lt-ltb a b (omega arith)
-lt-ltZ (pos a) (negsuc b) h = absurd (omega arith)
-lt-ltZ (negsuc a) (pos b) h = refl
-lt-ltZ (negsuc a) (negsuc b) h = lt-ltb b a (omega arith)
+ltZ-false a b e = ltb-false _ _ (sym (ltZ-is a b) ∙ e)
 
 pub le-out : {a b : ℤ} → a ≤ℤ b → up a + down b ≤ up b + down a
-le-out {a} {b} h = leZ-true a b (yes→true (leZ a b) (h .le))
+le-out {a} {b} h = leb-true _ _ (sym (leZ-is a b) ∙ yes→true (leZ a b) (h .le))
 
 pub le-in : (a b : ℤ) → up a + down b ≤ up b + down a → a ≤ℤ b
-le-in a b h = record { le = true→yes (le-leZ a b h) }
+le-in a b h = record { le = true→yes (leZ-is a b ∙ le-leb _ _ h) }
 
 pub lt-out : {a b : ℤ} → a <ℤ b → up a + down b < up b + down a
 lt-out {a} {b} h = ltZ-true a b (yes→true (ltZ a b) (h .lt))
 
 pub lt-in : (a b : ℤ) → up a + down b < up b + down a → a <ℤ b
-lt-in a b h = record { lt = true→yes (lt-ltZ a b h) }
+lt-in a b h = record { lt = true→yes (ltZ-is a b ∙ lt-ltb _ _ h) }

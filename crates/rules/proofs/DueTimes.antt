@@ -9,7 +9,7 @@ use native.Mathlib.Omega.{arith}
 use lib.IntN.{ℤ}
 use lib.Signed.{_<ℤ_}
 use Rattle.rules.specs.Answers.{badTime}
-use Rattle.rules.specs.Due.{Between, GoodTime, GoodKey, Before, goodDay, goodSecond, goodOffset, dayLow, dayHigh, secondLow, secondHigh, KeyFound, keyIs, noKey, TimeFound, timeIs, noTime, keyOr6, timeOr6, keyOf, dayOf, secondOf, toKey, fromKey}
+use Rattle.rules.specs.Due.{Between, GoodTime, GoodKey, Before, goodDay, goodSecond, goodOffset, dayLow, dayHigh, secondLow, secondHigh, keyIs, noKey, timeIs, noTime, keyOr6, timeOr6, keyOf, dayOf, secondOf, toKey, fromKey}
 use Rattle.rules.proofs.DueSigns.{true→yes}
 use Rattle.rules.proofs.DueRanges.{both, both-out, within-yes, within-fact, good-yes, good-fact}
 use Rattle.rules.proofs.DueMoments.{back, there, secondOf-in, moment-later, moment-earlier}

@@ -1,18 +1,17 @@
 -- Handles through the three changes: given, kept, gone; and the length of the free list with them.
 -- A reader may rely on these with normal-does, empty-does, manual-does and remove-does, which say which change an answer means.
-use mathlib.Core.Path.{_≡_, refl, sym, ap, _∙_, subst}
-use mathlib.Core.Logic.{_⊎_, inl, inr, _↔_}
-use mathlib.Core.List.{List, [], _∷_, _++_}
+use mathlib.Core.Path.{_≡_, refl, sym, ap, _∙_}
+use mathlib.Core.Logic.{_⊎_, inl, inr}
+use mathlib.Core.List.{List, _∷_, _++_}
 use Prim.Native.Nat.{ℕ, suc, _+_, _<_}
 use native.Mathlib.Decide.{decLt}
-use native.Mathlib.Omega.{arith}
-use lib.ListN.{length, length-append}
+use lib.ListN.{length}
 use Rattle.wavl.specs.Lists.{All, In, Differ, Once}
 use Rattle.wavl.specs.Entry.{Entry, revalued, slots}
 use Rattle.wavl.proofs.Lists.{all-left, all-in, in-slots, in-middle, slots-append}
-use Rattle.rules.specs.Queue.{Handle, entryWith, Queue, entries, Holds, Names, Live}
+use Rattle.rules.specs.Queue.{Handle, entryWith, Queue, entries, Names}
 use Rattle.rules.specs.Remove.{freed, noteOf}
-use Rattle.rules.specs.Sound.{freeSlots, usedSlots, Sound}
+use Rattle.rules.specs.Sound.{freeSlots, Sound}
 use Rattle.rules.specs.Changes.{Adds, Swaps, Takes}
 use Rattle.rules.specs.Handles.{HandleGiven, HandleKept, HandleGone, FreedBy}
 use Rattle.rules.proofs.Lists.{in-put, in-drop, once-differ, slots-put}
@@ -104,10 +103,3 @@ freed-length (no l) s f = refl
 
 pub takes-free : {q q′ : Queue} {x : Entry} → Takes q q′ x → FreedBy (noteOf (decLt (x .generation) (q .top))) (length (q .free)) (length (q′ .free))
 takes-free {q} {q′} {x} c = rw (c .gives-back) (freed-length (decLt (x .generation) (q .top)) (x .slot) (q .free))
-
--- and the number of entries
-pub adds-live : {q q′ : Queue} {h : Handle} {key value : ℕ} → Adds q q′ h key value → length (entries q′) ≡ suc (length (entries q))
-adds-live c = rw (c .now, c .old) (simp length-append (omega arith))
-
-pub takes-live : {q q′ : Queue} {x : Entry} → Takes q q′ x → length (entries q) ≡ suc (length (entries q′))
-takes-live c = rw (c .now, c .old) (simp length-append (omega arith))

@@ -4,14 +4,12 @@ use mathlib.Core.Path.{_≡_, refl, ap, subst}
 use mathlib.Core.Logic.{_↔_}
 use mathlib.Core.List.{List, [], _∷_}
 use Prim.Native.Nat.{ℕ}
-use Rattle.wavl.specs.Lists.{choose}
 use Rattle.wavl.proofs.Order.{choose-cases}
-use Rattle.rules.specs.Queue.{Handle, Queue, fresh}
+use Rattle.rules.specs.Queue.{Queue, fresh}
 use Rattle.rules.specs.Answers.{badLayout}
 use Rattle.rules.specs.Sound.{InRange, Sound}
 use Rattle.rules.specs.LayOut.{LaidOut, laidOut, notLaidOut, Ranges, decRanges, layOut}
-use Rattle.rules.specs.Calls.{Call, normal, onEmpty, manual, lookNormal, lookEmpty, lookManual, removal, reading, searching, toFirst, toLast, toNext, toPrev, Answer, answer, run}
-use Rattle.rules.proofs.Kept.{fresh-sound}
+use Rattle.rules.specs.Calls.{Call, normal, onEmpty, manual, lookNormal, lookEmpty, lookManual, removal, reading, searching, toFirst, toLast, toNext, toPrev, answer, run}
 use Rattle.rules.proofs.Removing.{remove-sound}
 use Rattle.rules.proofs.Insertions.{normal-sound, empty-sound, manual-sound}
 
@@ -36,10 +34,6 @@ pub run-sound : (l : List Call) (q : Queue) → Sound q → Sound (run l q .1)
 unfolding run
 run-sound [] q s = s
 run-sound (c ∷ l) q s = run-sound l (answer c q .1) (answer-sound c q s)
-
--- from laying out on
-pub runs-sound : (l : List Call) (capacity top : ℕ) → InRange capacity top → Sound (run l (fresh capacity top) .1)
-runs-sound l capacity top r = run-sound l (fresh capacity top) (fresh-sound capacity top r)
 
 -- laying out is refused 4 exactly outside the ranges, and gives a sound queue inside them
 module _ (capacity top : ℕ) where

@@ -1,11 +1,10 @@
 -- What placing at a way and replacing at a node do: the answer, the queue after it, and that it stays sound.
 -- A reader may rely on this: every kind of insertion ends in one of the two, or in a refusal that leaves the queue as it stood.
-use mathlib.Core.Path.{_≡_, refl, sym, ap, _∙_, subst}
-use mathlib.Core.List.{List, [], _∷_, _++_, append-assoc}
+use mathlib.Core.Path.{_≡_, refl, sym, ap, _∙_}
+use mathlib.Core.List.{List, [], _∷_, _++_}
 use mathlib.Core.Option.{Option, none, some}
 use Prim.Native.Nat.{ℕ}
-use native.Mathlib.Omega.{arith}
-use Rattle.wavl.specs.Lists.{All, Pairwise, first, last}
+use Rattle.wavl.specs.Lists.{All, first, last}
 use Rattle.wavl.specs.Entry.{Entry, Before, Rising}
 use Rattle.wavl.specs.Tree.{Side, left, right, Tree, tip, fork, inorder}
 use Rattle.wavl.specs.Way.{Way, place, plug, before, after, neighbour, replaceAt}
@@ -15,14 +14,15 @@ use Rattle.wavl.proofs.Lists.{all-both, all-map, put-one, below-one, above-one,
 use Rattle.wavl.proofs.Rule.{ranks→ranked, ranked→ranks}
 use Rattle.wavl.proofs.Order.{insertAt-order, empty-place-order}
 use Rattle.wavl.proofs.Placed.{insertAt-ranks}
-use Rattle.wavl.proofs.Rising.{before-trans, node-around, replaceAt-order, replaceAt-ranks, replaceAt-rising}
-use Rattle.rules.specs.Queue.{Handle, handleOf, entryWith, Queue, entries, Names}
+use Rattle.wavl.proofs.Manual.{smallerAt, greaterAt}
+use Rattle.wavl.proofs.Rising.{before-trans, replaceAt-order, replaceAt-ranks, replaceAt-rising}
+use Rattle.rules.specs.Queue.{Handle, entryWith, Queue, entries}
 use Rattle.rules.specs.Answers.{Inserted}
 use Rattle.rules.specs.Insert.{addWith, addAt, swapAt, keyed, Beside, Between}
 use Rattle.rules.specs.Sound.{Sound}
-use Rattle.rules.specs.Changes.{SameHeader, Adds, Swaps, AfterInserting}
+use Rattle.rules.specs.Changes.{Adds, Swaps, AfterInserting}
 use Rattle.rules.proofs.Kept.{sound-adds, sound-swaps}
-use Rattle.rules.proofs.Places.{smallerAt, greaterAt}
+use Rattle.rules.proofs.Places.{smallerOf, greaterOf, entries-around}
 
 -- an answer and a queue that insertion may leave
 pub record Inserts (key value : ℕ) (q : Queue) (r : Inserted × Queue) : Type 0 where
@@ -57,10 +57,10 @@ module _ (key value : ℕ) (q : Queue) (s : Sound q) where
   pub swap-at : (a : Tree) (x : Entry) (r : ℕ) (b : Tree) (p : Way) → plug (fork a x r b) p ≡ q .tree → x .key ≡ key
       → Inserts key value q (swapAt value a x r b p q)
   swap-at a x r b p w e =
-      let l = before p ++ inorder a in
-      let g = inorder b ++ after p in
+      let l = smallerOf a p in
+      let g = greaterOf b p in
       let t = replaceAt value (place (fork a x r b) p) in
-      let old : entries q ≡ l ++ (x ∷ g) = ap inorder (sym w) ∙ node-around a x r b p in
+      let old = entries-around q a x r b p w in
       let swaps : Swaps q (swapAt value a x r b p q .1) x value =
       record { header = record { capacity = refl; top = refl }; same-free = refl; smaller = l; greater = g; old = old; now = replaceAt-order value a x r b p } in
       record {

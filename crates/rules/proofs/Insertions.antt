@@ -1,27 +1,26 @@
 -- Normal, Empty and Manual insertion: the answer says what was done to the queue, and the queue stays sound.
 -- A reader may rely on these for every key, value, handle and side, and every sound queue.
-use mathlib.Core.Path.{_≡_, refl, sym, ap, _∙_}
-use mathlib.Core.List.{List, [], _∷_, _++_}
+use mathlib.Core.Path.{_≡_, refl, sym, _∙_}
+use mathlib.Core.List.{[]}
 use Prim.Native.Nat.{ℕ}
-use native.Mathlib.Decide.{ℕ-discrete}
-use Rattle.wavl.specs.Entry.{Entry, Before, Rising}
-use Rattle.wavl.specs.Tree.{Side, left, right, Tree, tip, fork, inorder}
-use Rattle.wavl.specs.Way.{Way, Place, place, plug, before, after, neighbour}
+use Rattle.wavl.specs.Entry.{Entry}
+use Rattle.wavl.specs.Tree.{Side, left, right, Tree, tip, fork}
+use Rattle.wavl.specs.Way.{Way, Place, place, plug, before, after}
 use Rattle.wavl.specs.Search.{search, besideOf}
 use Rattle.wavl.proofs.Lists.{all-map}
 use Rattle.wavl.proofs.Order.{choose-cases}
-use Rattle.wavl.proofs.Rising.{less-before, node-around}
-use Rattle.wavl.proofs.Manual.{beside-whole}
+use Rattle.wavl.proofs.Rising.{less-before}
+use Rattle.wavl.proofs.Manual.{beside-whole, beside-is}
 use Rattle.wavl.proofs.Found.{Missed, Searched, search-right}
-use Rattle.rules.specs.Queue.{Handle, Queue, entries}
-use Rattle.rules.specs.Answers.{Inserted, notInserted, failedOrdRequirement}
+use Rattle.rules.specs.Queue.{Handle, Queue}
+use Rattle.rules.specs.Answers.{notInserted, failedOrdRequirement}
 use Rattle.rules.specs.Place.{Spot, nowhere, spot, spotOf}
-use Rattle.rules.specs.Insert.{Where, less, equal, greater, addAt, swapAt, keyed, decBetween, addBeside, placeNormal, insertNormal, placeEmpty, insertEmpty, placeManual, insertManual}
+use Rattle.rules.specs.Insert.{Where, less, equal, greater, keyed, addBeside, placeNormal, insertNormal, placeEmpty, insertEmpty, placeManual, insertManual}
 use Rattle.rules.specs.Sound.{Sound}
 use Rattle.rules.specs.Changes.{AfterInserting}
-use Rattle.rules.proofs.Places.{SpotIs, beside-is}
+use Rattle.rules.proofs.Places.{entries-around, SpotIs}
 use Rattle.rules.proofs.Removing.{sound-spot}
-use Rattle.rules.proofs.Inserting.{Inserts, FitsAt, add-at, swap-at, Sides, between-sides}
+use Rattle.rules.proofs.Inserting.{Inserts, FitsAt, add-at, swap-at, between-sides}
 
 module _ (key value : ℕ) (q : Queue) (s : Sound q) where
   refused : (n : ℕ) → Inserts key value q (notInserted n, q)
@@ -69,7 +68,7 @@ module _ (key value : ℕ) (q : Queue) (s : Sound q) where
   add-beside : (d : Side) (a : Tree) (x : Entry) (r : ℕ) (b : Tree) (p : Way) → plug (fork a x r b) p ≡ q .tree
       → Inserts key value q (addBeside d x (place (fork a x r b) p) key value q)
   add-beside d a x r b p w =
-      let old : entries q ≡ (before p ++ inorder a) ++ (x ∷ (inorder b ++ after p)) = ap inorder (sym w) ∙ node-around a x r b p in
+      let old = entries-around q a x r b p w in
       let c = place (fork a x r b) p in
       choose-cases (Inserts key value q) _ _ _
       (λ f.

@@ -1,20 +1,20 @@
 -- Rules 5 and 6 through the three changes: an entry put in, a value changed, an entry taken out. And a fresh queue is sound.
 -- A reader may rely on this: distinct slots and generations are argued from the lists alone, never from keys.
-use mathlib.Core.Path.{_≡_, refl, sym, ap, _∙_}
-use mathlib.Core.List.{List, [], _∷_, _++_, append-assoc}
+use mathlib.Core.Path.{_≡_, sym}
+use mathlib.Core.List.{List, _∷_, _++_, append-assoc}
 use Prim.Native.Nat.{ℕ, zero, suc, _+_, _≤_, _<_}
 use native.Mathlib.Decide.{decLt}
 use native.Mathlib.Omega.{arith}
-use Rattle.wavl.specs.Lists.{All, Pairwise, Differ, Once}
+use Rattle.wavl.specs.Lists.{All, Once}
 use Rattle.wavl.specs.Entry.{Entry, revalued, Rising, slots}
-use Rattle.wavl.specs.Tree.{Tree, tip, inorder}
+use Rattle.wavl.specs.Tree.{inorder}
 use Rattle.wavl.specs.Ranks.{Ranked}
 use Rattle.wavl.proofs.Lists.{all-map, slots-append}
-use Rattle.rules.specs.Queue.{Handle, handle, entryWith, Queue, freshFrom, fresh, entries}
-use Rattle.rules.specs.Remove.{freed, freeAfter}
-use Rattle.rules.specs.Sound.{InRange, freeSlots, usedSlots, Under, Generation, LiveGeneration, FreeGeneration, Sound}
+use Rattle.rules.specs.Queue.{Handle, entryWith, Queue, freshFrom, fresh, entries}
+use Rattle.rules.specs.Remove.{freed}
+use Rattle.rules.specs.Sound.{InRange, freeSlots, usedSlots, Under, LiveGeneration, FreeGeneration, Sound}
 use Rattle.rules.specs.Changes.{SameHeader, Adds, Swaps, Takes}
-use Rattle.rules.proofs.Lists.{all-put, all-drop, all-at, once-put, once-drop, once-differ, once-move, all-move, slots-put}
+use Rattle.rules.proofs.Lists.{all-put, all-drop, all-at, once-drop, once-move, all-move, slots-put}
 
 -- live and free slots of a chain and a free list
 abbrev used : List Entry → List Handle → List ℕ

@@ -1,11 +1,11 @@
 -- Laws of lists that crate wavl has no use for: one element put in, taken out, or moved to another place.
 -- Assumes nothing.
-use mathlib.Core.Path.{_≡_, refl, sym, ap, _∙_}
+use mathlib.Core.Path.{_≡_, sym}
 use mathlib.Core.Logic.{_⊎_, inl, inr}
-use mathlib.Core.List.{List, [], _∷_, _++_, append-assoc}
+use mathlib.Core.List.{List, _∷_, _++_}
 use Prim.Native.Nat.{ℕ}
-use Rattle.wavl.specs.Lists.{All, Pairwise, In, Differ, Once}
-use Rattle.wavl.specs.Entry.{Entry, revalued, slots}
+use Rattle.wavl.specs.Lists.{All, In, Differ, Once}
+use Rattle.wavl.specs.Entry.{Entry, slots}
 use Rattle.wavl.proofs.Lists.{all-left, all-right, all-both, all-map, in-left, in-right, in-cases, drop-one, put-one, below-one, above-one, slots-append}
 
 module _ {A : Type 0} (P : A → Type 0) where

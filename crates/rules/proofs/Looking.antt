@@ -1,7 +1,7 @@
 -- Reading, removal, stepping and search on a sound queue, as equations and as document 01 words them.
 -- A reader may rely on these: what a live handle reads, where the cursor goes, what a search answers and counts.
 use mathlib.Core.Path.{_≡_, refl, sym, ap, _∙_, subst}
-use mathlib.Core.Logic.{_⊎_, inl, inr, _↔_}
+use mathlib.Core.Logic.{_↔_}
 use mathlib.Core.List.{List, [], _∷_, _++_}
 use Prim.Native.Nat.{ℕ, suc, _+_, _*_, _^_, _≤_, _<_}
 use native.Mathlib.Decide.{decLt}
@@ -9,7 +9,7 @@ use native.Mathlib.Omega.{arith}
 use lib.ListN.{length}
 use Rattle.wavl.specs.Lists
 use Rattle.wavl.specs.Entry.{Entry}
-use Rattle.wavl.specs.Tree.{Side, left, right, Tree, tip, fork, inorder, size}
+use Rattle.wavl.specs.Tree.{left, right, tip, fork, inorder}
 use Rattle.wavl.specs.Way.{step, Place, place, neighbour}
 use Rattle.wavl.specs.Search.{search, path, looked}
 use Rattle.wavl.specs.Search
@@ -18,14 +18,14 @@ use Rattle.wavl.proofs.Rule.{ranked→ranks}
 use Rattle.wavl.proofs.Size.{size-length}
 use Rattle.wavl.proofs.Found.{looked-path, looked-bound, looked-tight}
 use Rattle.wavl.proofs.Reply.{Answers, answer-right}
-use Rattle.rules.specs.Queue.{Handle, handle, handleOf, Queue, entries, Holds, Has, Names, Live}
-use Rattle.rules.specs.Answers.{noNote, generationOverflow, Removed, removed, Read, reads, Found, equalAt, beside, noEntry, Stepped, stands, ends}
+use Rattle.rules.specs.Queue.{Handle, handle, handleOf, Queue, entries, Has}
+use Rattle.rules.specs.Answers.{noNote, generationOverflow, removed, reads, Found, equalAt, beside, noEntry, stands, ends}
 use Rattle.rules.specs.Place.{Spot, nowhere, spot, spotOf}
 use Rattle.rules.specs.Remove.{freed, noteOf, freeAfter, removeSpot, remove}
 use Rattle.rules.specs.Look.{readSpot, read, foundIn, searchFor, standsAt, first, last, stepSpot, stepTo, next, prev}
 use Rattle.rules.specs.Sound.{Sound}
-use Rattle.rules.specs.Table.{Target, NoEntries, KeyOn, SearchAnswers, countOf}
-use Rattle.rules.proofs.Places.{SpotIs, same-slot}
+use Rattle.rules.specs.Table.{Target, NoEntries, SearchAnswers, countOf}
+use Rattle.rules.proofs.Places.{SpotIs}
 use Rattle.rules.proofs.Removing.{live-once, sound-spot}
 use Rattle.rules.proofs.Told.{one-split, target-at, target-live}
 

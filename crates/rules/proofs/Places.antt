@@ -1,21 +1,32 @@
--- The place that a handle names, and the empty place beside a node: what stands before and after them.
+-- The chain of a queue around a node, and the place that a handle names.
 -- A reader may rely on this: on a queue with distinct slots spotOf finds a handle's entry exactly when the handle is live.
-use mathlib.Core.Path.{_≡_, refl, sym, ap, _∙_}
+use mathlib.Core.Path.{_≡_, sym, ap, _∙_}
 use mathlib.Core.Logic.{inl, inr}
 use mathlib.Core.List.{List, [], _∷_, _++_}
 use Prim.Native.Nat.{ℕ}
 use Rattle.wavl.specs.Lists.{In, Once}
 use Rattle.wavl.specs.Entry.{Entry, slots}
-use Rattle.wavl.specs.Tree.{Side, left, right, Tree, tip, fork, inorder}
+use Rattle.wavl.specs.Tree.{Tree, tip, fork, inorder}
 use Rattle.wavl.specs.Way.{Way, Place, place, plug, before, after}
-use Rattle.wavl.specs.Search.{locate, besideOf}
+use Rattle.wavl.specs.Search.{locate}
 use Rattle.wavl.proofs.Lists.{all-in, in-middle, in-slots}
 use Rattle.wavl.proofs.Order.{choose-cases}
 use Rattle.wavl.proofs.Rising.{node-around}
 use Rattle.wavl.proofs.Located.{Spot as SlotAt, locate-right}
-use Rattle.wavl.proofs.Manual.{beside-left, beside-right}
-use Rattle.rules.specs.Queue.{Handle, handleOf, Queue, entries, Names, Live}
+use Rattle.rules.specs.Queue.{Handle, Queue, entries, Names, Live}
 use Rattle.rules.specs.Place.{Spot, nowhere, spot, ofGeneration, spotOf}
+
+-- the entries before a node with the left child a, and after one with the right child b
+abbrev pub smallerOf : Tree → Way → List Entry
+smallerOf a p = before p ++ inorder a
+
+abbrev pub greaterOf : Tree → Way → List Entry
+greaterOf b p = inorder b ++ after p
+
+-- the chain of a queue around a node of its tree
+pub entries-around : (q : Queue) (a : Tree) (x : Entry) (r : ℕ) (b : Tree) (p : Way) → plug (fork a x r b) p ≡ q .tree
+    → entries q ≡ smallerOf a p ++ (x ∷ greaterOf b p)
+entries-around q a x r b p e = ap inorder (sym e) ∙ node-around a x r b p
 
 -- with distinct slots, two entries with one slot are one
 pub slot-unique : (l : List Entry) → Once (slots l) → (x y : Entry) → In x l → In y l → x .slot ≡ y .slot → x ≡ y
@@ -41,26 +52,12 @@ module _ (h : Handle) (q : Queue) (once : Once (slots (entries q))) where
   unfolding ofGeneration
   of-place (place tip w) f = λ l. all-in _ (entries q) f (l .0) (l .1) (l .2 .0)
   of-place (place (fork a x r b) w) f =
-      let whole : entries q ≡ (before w ++ inorder a) ++ (x ∷ (inorder b ++ after w)) = ap inorder (sym (f .back)) ∙ node-around a x r b w in
+      let whole = entries-around q a x r b w (f .back) in
       choose-cases (SpotIs h q) _ _ _ (λ e. ((f .slot-is, e), f .back))
       (λ e l.
-      let one = same-slot (before w ++ inorder a) x (inorder b ++ after w) (rw whole at once) (l .0) (rw whole at (l .1)) (l .2 .0 ∙ sym (f .slot-is)) in
+      let one = same-slot (smallerOf a w) x (greaterOf b w) (rw whole at once) (l .0) (rw whole at (l .1)) (l .2 .0 ∙ sym (f .slot-is)) in
       e (ap (λ (y : Entry). y .generation) (sym one) ∙ l .2 .1))
 
   pub spot-is : SpotIs h q (spotOf h q)
   unfolding spotOf
   spot-is = of-place (locate (h .slot) (q .tree)) (locate-right (h .slot) (q .tree))
-
--- the entries before and after the place beside a node
-abbrev pub smallerAt : Side → Tree → Entry → Tree → Way → List Entry
-smallerAt left a x b p = before p ++ inorder a
-smallerAt right a x b p = (before p ++ inorder a) ++ (x ∷ [])
-
-abbrev pub greaterAt : Side → Tree → Entry → Tree → Way → List Entry
-greaterAt left a x b p = x ∷ (inorder b ++ after p)
-greaterAt right a x b p = inorder b ++ after p
-
-pub beside-is : (d : Side) (a : Tree) (x : Entry) (r : ℕ) (b : Tree) (p : Way)
-    → (before (besideOf d (place (fork a x r b) p)) ≡ smallerAt d a x b p) × (after (besideOf d (place (fork a x r b) p)) ≡ greaterAt d a x b p)
-beside-is left a x r b p = beside-left a x r b p
-beside-is right a x r b p = beside-right a x r b p

@@ -2,10 +2,10 @@
 -- A reader may rely on these for sound queues. Number 5 is the store's, and 4 and 6 belong to laying out and to due times.
 use mathlib.Core.Path.{_≡_, refl, sym, ap, _∙_, subst}
 use mathlib.Core.Logic.{_⊎_, inl, inr, _↔_}
-use mathlib.Core.List.{List, [], _∷_, cons≢nil}
+use mathlib.Core.List.{cons≢nil}
 use Prim.Native.Nat.{ℕ}
 use native.Mathlib.Omega.{arith}
-use Rattle.wavl.specs.Tree.{Side, left, right}
+use Rattle.wavl.specs.Tree.{Side}
 use Rattle.rules.specs.Queue.{Handle, Queue, Has, Live}
 use Rattle.rules.specs.Answers.{Inserted, new, replacing, notInserted, Removed, removed, notRemoved, Read, reads, notRead, Stepped, stands, ends, notStepped, notWithinCapacity, failedOrdRequirement, invalidPtr}
 use Rattle.rules.specs.Insert.{Where, insertNormal, insertEmpty, insertManual}

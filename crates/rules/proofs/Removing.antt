@@ -1,26 +1,25 @@
 -- What removal does: its answer, the queue after it, and that it stays sound.
 -- A reader may rely on remove-does and remove-sound, for every handle and every sound queue.
-use mathlib.Core.Path.{_≡_, refl, sym, ap, _∙_, subst}
-use mathlib.Core.List.{List, [], _∷_, _++_}
-use Prim.Native.Nat.{ℕ}
+use mathlib.Core.Path.{_≡_, refl}
+use mathlib.Core.List.{_++_}
 use Rattle.wavl.specs.Lists.{Once}
-use Rattle.wavl.specs.Entry.{Entry, Before, Rising, slots}
-use Rattle.wavl.specs.Tree.{Tree, tip, fork, inorder}
-use Rattle.wavl.specs.Way.{Way, plug, before, after}
-use Rattle.wavl.specs.Ranks.{Ranked, Ranks}
+use Rattle.wavl.specs.Entry.{Before, slots}
+use Rattle.wavl.specs.Tree.{fork, inorder}
+use Rattle.wavl.specs.Way.{plug}
+use Rattle.wavl.specs.Ranks.{Ranks}
 use Rattle.wavl.specs.Taking.{removeAt}
 use Rattle.wavl.proofs.Lists.{drop-one, pairwise-left}
 use Rattle.wavl.proofs.Rule.{ranks→ranked, ranked→ranks}
 use Rattle.wavl.proofs.Taken.{removeAt-shows}
-use Rattle.wavl.proofs.Rising.{node-around, removed-around}
-use Rattle.rules.specs.Queue.{Handle, Queue, entries, Names}
-use Rattle.rules.specs.Answers.{Removed, removed, notRemoved}
+use Rattle.wavl.proofs.Rising.{removed-around}
+use Rattle.rules.specs.Queue.{Handle, Queue, entries}
+use Rattle.rules.specs.Answers.{Removed}
 use Rattle.rules.specs.Place.{Spot, nowhere, spot, spotOf}
 use Rattle.rules.specs.Remove.{removeSpot, remove}
 use Rattle.rules.specs.Sound.{freeSlots, Sound}
-use Rattle.rules.specs.Changes.{SameHeader, Takes, AfterRemoving}
+use Rattle.rules.specs.Changes.{Takes, AfterRemoving}
 use Rattle.rules.proofs.Kept.{sound-takes}
-use Rattle.rules.proofs.Places.{SpotIs, spot-is}
+use Rattle.rules.proofs.Places.{smallerOf, greaterOf, entries-around, SpotIs, spot-is}
 
 -- the live slots of a sound queue are distinct
 pub live-once : {q : Queue} → Sound q → Once (slots (entries q))
@@ -40,9 +39,9 @@ module _ (h : Handle) (q : Queue) (s : Sound q) where
   unfolding removeSpot
   removes nowhere n = record { does = refl; sound = s }
   removes (spot a x r b p) n =
-      let l = before p ++ inorder a in
-      let g = inorder b ++ after p in
-      let old : entries q ≡ l ++ (x ∷ g) = ap inorder (sym (n .1)) ∙ node-around a x r b p in
+      let l = smallerOf a p in
+      let g = greaterOf b p in
+      let old = entries-around q a x r b p (n .1) in
       let ranks : Ranks (plug (fork a x r b) p) = rw (n .1) (ranked→ranks (q .tree) (s .ranked)) in
       let now : inorder (removeAt (fork a x r b) p) ≡ l ++ g = removed-around a x r b p ranks in
       let takes : Takes q (removeSpot (spot a x r b p) q .1) x =

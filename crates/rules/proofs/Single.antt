@@ -1,23 +1,22 @@
 -- No second answer: two answers of a call for which specs/Table's facts hold on one sound queue are the same answer.
 -- A reader may rely on these with the theorems CALL-answers of proofs/Told and proofs/Looking: the facts pin the answer down.
 use mathlib.Core.Path.{_≡_, refl, sym, ap, _∙_, subst}
-use mathlib.Core.Logic.{_⊎_, inl, inr}
-use mathlib.Core.List.{List, [], _∷_, _++_, head-eq-of-cons-eq}
+use mathlib.Core.Logic.{inl, inr}
+use mathlib.Core.List.{List, head-eq-of-cons-eq}
 use mathlib.Core.Option.{Option, some, Option·some-injective}
-use Prim.Native.Nat.{ℕ, _<_}
+use Prim.Native.Nat.{ℕ}
 use native.Mathlib.Omega.{arith}
-use lib.ListN.{length}
 use Rattle.wavl.specs.Lists.{first, last}
 use Rattle.wavl.specs.Entry.{Entry}
 use Rattle.wavl.specs.Tree.{Side, left, right}
 use Rattle.wavl.proofs.Lists.{last-of}
 use Rattle.wavl.proofs.Strict.{rising-unique}
-use Rattle.rules.specs.Queue.{Handle, handleOf, Queue, entries, Holds, Has, Names, Live}
+use Rattle.rules.specs.Queue.{Handle, handleOf, Queue, entries, Holds, Names}
 use Rattle.rules.specs.Answers.{Inserted, new, replacing, notInserted, Note, noNote, generationOverflow, Removed, removed, notRemoved, Read, reads, notRead, Found, equalAt, beside, noEntry, Stepped, stands, ends, notStepped}
 use Rattle.rules.specs.Insert.{Where}
 use Rattle.rules.specs.Look.{standsAt}
 use Rattle.rules.specs.Sound.{Sound}
-use Rattle.rules.specs.Table.{NoSlot, NextFree, NormalAnswers, NoEntries, EmptyAnswers, Target, ManualFits, Adding, ManualAnswers, NoteFits, RemoveAnswers, ReadAnswers, Facing, StepAnswers, KeyOn, SearchAnswers}
+use Rattle.rules.specs.Table.{NextFree, NormalAnswers, NoEntries, EmptyAnswers, Target, ManualAnswers, NoteFits, RemoveAnswers, ReadAnswers, Facing, StepAnswers, KeyOn, SearchAnswers}
 use Rattle.rules.proofs.Places.{slot-unique}
 use Rattle.rules.proofs.Removing.{live-once}
 use Rattle.rules.proofs.Told.{names-handle, target-live}

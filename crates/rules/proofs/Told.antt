@@ -1,31 +1,29 @@
 -- Each call's answer, for every input and every sound queue: specs/Table holds of it.
 -- A reader may rely on the theorems named CALL-answers; proofs/Refusals draws document 01's table from them.
-use mathlib.Core.Path.{_≡_, refl, sym, ap, _∙_, subst}
-use mathlib.Core.Logic.{_⊎_, inl, inr}
+use mathlib.Core.Path.{_≡_, refl, sym, ap, _∙_}
+use mathlib.Core.Logic.{inl, inr}
 use mathlib.Core.List.{List, [], _∷_, _++_, cons≢nil}
-use mathlib.Core.Option.{Option, none, some}
+use mathlib.Core.Option.{some}
 use Prim.Native.Nat.{ℕ, _<_}
 use native.Mathlib.Decide.{decLt, ℕ-discrete}
-use native.Mathlib.Omega.{arith}
 use Rattle.wavl.specs.Lists.{Once, first, last}
 use Rattle.wavl.specs.Entry.{Entry, slots}
 use Rattle.wavl.specs.Tree.{Side, left, right, Tree, tip, fork, inorder}
-use Rattle.wavl.specs.Way.{Way, Place, place, plug, before, after, neighbour}
+use Rattle.wavl.specs.Way.{Way, Place, place, neighbour}
 use Rattle.wavl.specs.Search.{search, besideOf}
 use Rattle.wavl.proofs.Lists.{in-middle}
 use Rattle.wavl.proofs.Order.{choose-cases}
-use Rattle.wavl.proofs.Rising.{node-around}
 use Rattle.wavl.proofs.Found.{Searched, search-right}
 use Rattle.wavl.proofs.Chain.{split-unique}
-use Rattle.rules.specs.Queue.{Handle, handleOf, Queue, entries, Holds, Has, Names, Live}
-use Rattle.rules.specs.Answers.{Inserted, new, replacing, notInserted, failedOrdRequirement, Stepped, stands, ends, notStepped}
+use Rattle.rules.specs.Queue.{Handle, handleOf, Queue, Holds, Has, Names, Live}
+use Rattle.rules.specs.Answers.{notInserted, failedOrdRequirement, Stepped, stands, ends, notStepped}
 use Rattle.rules.specs.Place.{Spot, nowhere, spot, spotOf}
 use Rattle.rules.specs.Insert.{Where, less, equal, greater, keyed, Between, decBetween, addWith, addAt, swapAt, addBeside, placeNormal, insertNormal, placeEmpty, insertEmpty, placeManual, insertManual}
 use Rattle.rules.specs.Remove.{noteOf, removeSpot, remove}
 use Rattle.rules.specs.Look.{readSpot, read, standsAt, stepSpot, stepTo}
 use Rattle.rules.specs.Sound.{Sound}
-use Rattle.rules.specs.Table.{NoSlot, NextFree, NormalAnswers, NoEntries, EmptyAnswers, Target, KeyFits, ManualFits, Adding, ManualAnswers, NoteFits, RemoveAnswers, ReadAnswers, Facing, StepAnswers}
-use Rattle.rules.proofs.Places.{SpotIs, same-slot}
+use Rattle.rules.specs.Table.{NormalAnswers, NoEntries, EmptyAnswers, Target, KeyFits, ManualFits, Adding, ManualAnswers, NoteFits, RemoveAnswers, ReadAnswers, Facing, StepAnswers}
+use Rattle.rules.proofs.Places.{smallerOf, greaterOf, entries-around, SpotIs, same-slot}
 use Rattle.rules.proofs.Removing.{live-once, sound-spot}
 
 -- Normal
@@ -83,10 +81,10 @@ names-handle h x n = rw (n .0, n .1)
 -- the target at a spot
 abbrev pub target-at : (h : Handle) (q : Queue) (a : Tree) (x : Entry) (r : ℕ) (b : Tree) (p : Way) → SpotIs h q (spot a x r b p) → Target h q
 target-at h q a x r b p n = record {
-  smaller = before p ++ inorder a;
+  smaller = smallerOf a p;
   target = x;
-  greater = inorder b ++ after p;
-  chain = ap inorder (sym (n .1)) ∙ node-around a x r b p;
+  greater = greaterOf b p;
+  chain = entries-around q a x r b p (n .1);
   named = n .0;
 }
 
@@ -112,12 +110,12 @@ module _ (h : Handle) (key value : ℕ) (q : Queue) (s : Sound q) where
   manual-adds w k m p (g ∷ f) e = (m, k, (f, e))
 
   module _ (a : Tree) (x : Entry) (r : ℕ) (b : Tree) (p : Way) (n : SpotIs h q (spot a x r b p)) where
-    unfit : (w : Where) → ¬ KeyFits w key (before p ++ inorder a) x (inorder b ++ after p) → ManualAnswers h w key q (notInserted failedOrdRequirement)
+    unfit : (w : Where) → ¬ KeyFits w key (smallerOf a p) x (greaterOf b p) → ManualAnswers h w key q (notInserted failedOrdRequirement)
     unfit w f = inl (refl, λ m. f (fits-move h q s w key (m .0) (target-at h q a x r b p n) (m .1)))
 
     manual-beside : (w : Where) → Adding w → (d : Side)
-        → (Between d (keyed key) x (neighbour d (place (fork a x r b) p)) → KeyFits w key (before p ++ inorder a) x (inorder b ++ after p))
-        → (KeyFits w key (before p ++ inorder a) x (inorder b ++ after p) → Between d (keyed key) x (neighbour d (place (fork a x r b) p)))
+        → (Between d (keyed key) x (neighbour d (place (fork a x r b) p)) → KeyFits w key (smallerOf a p) x (greaterOf b p))
+        → (KeyFits w key (smallerOf a p) x (greaterOf b p) → Between d (keyed key) x (neighbour d (place (fork a x r b) p)))
         → ManualAnswers h w key q (addBeside d x (place (fork a x r b) p) key value q .0)
     manual-beside w k d there back =
         let c = place (fork a x r b) p in
@@ -199,9 +197,9 @@ module _ (h : Handle) (q : Queue) (s : Sound q) where
   unfolding stepSpot neighbour
   step-spot d nowhere n = (refl, n)
   step-spot left (spot a x r b p) n =
-      step-facing left (target-at h q a x r b p n) (standsAt (last (before p ++ inorder a))) (faces-left (before p ++ inorder a) x (inorder b ++ after p))
+      step-facing left (target-at h q a x r b p n) (standsAt (last (smallerOf a p))) (faces-left (smallerOf a p) x (greaterOf b p))
   step-spot right (spot a x r b p) n =
-      step-facing right (target-at h q a x r b p n) (standsAt (first (inorder b ++ after p))) (faces-right (before p ++ inorder a) x (inorder b ++ after p))
+      step-facing right (target-at h q a x r b p n) (standsAt (first (greaterOf b p))) (faces-right (smallerOf a p) x (greaterOf b p))
 
   pub step-answers : (d : Side) → StepAnswers d h q (stepTo d h q)
   unfolding stepTo

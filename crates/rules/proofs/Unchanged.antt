@@ -1,6 +1,6 @@
 -- "Each refusal returns its number alone and changes nothing", and the look-ahead tells what the insertion will answer.
 -- A reader may rely on these for every queue, sound or not.
-use mathlib.Core.Path.{_≡_, refl, sym, ap, subst}
+use mathlib.Core.Path.{_≡_, refl, sym, subst}
 use mathlib.Core.List.{List, [], _∷_}
 use Prim.Native.Nat.{ℕ}
 use native.Mathlib.Decide.{ℕ-discrete}

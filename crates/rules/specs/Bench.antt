@@ -2,7 +2,7 @@
 -- A reader may rely on this: the results are written out here by hand; proofs/Bench computes the scripts and compares.
 use mathlib.Core.Path.{_≡_}
 use mathlib.Core.List.{List, [], _∷_, _++_}
-use Prim.Native.Nat.{ℕ, suc, _+_, _-_, _^_}
+use Prim.Native.Nat.{ℕ, _+_, _-_, _^_}
 use lib.ListN.{length}
 use Rattle.wavl.specs.Lists.{All}
 use Rattle.wavl.specs.Entry.{Entry}

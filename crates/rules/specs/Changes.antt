@@ -1,11 +1,11 @@
 -- What a call may do to a queue: put one entry in at its place, change one value, take one entry out; nothing else.
 -- A reader may rely on this: each record says all that changes; capacity and top never do.
 use mathlib.Core.Path.{_≡_}
-use mathlib.Core.List.{List, [], _∷_, _++_}
+use mathlib.Core.List.{List, _∷_, _++_}
 use Prim.Native.Nat.{ℕ}
 use Rattle.wavl.specs.Entry.{Entry, revalued}
 use Rattle.rules.specs.Queue.{Handle, entryWith, Queue, entries, Names}
-use Rattle.rules.specs.Answers.{Inserted, new, replacing, notInserted, Note, Removed, removed, notRemoved}
+use Rattle.rules.specs.Answers.{Inserted, new, replacing, notInserted, Removed, removed, notRemoved}
 use Rattle.rules.specs.Remove.{freeAfter}
 
 -- the header's part of a queue stays

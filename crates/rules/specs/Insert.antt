@@ -1,6 +1,5 @@
 -- Placing a strike (document 01, "Placing a strike"): the three kinds of insertion, and the look-ahead of each.
 -- A reader may rely on this: a queue that refuses is handed back as it stood, and a replacement never asks for a slot.
-use mathlib.Core.Path.{_≡_}
 use mathlib.Core.List.{List, [], _∷_}
 use mathlib.Core.Option.{Option, none, some}
 use Prim.Native.Nat.{ℕ}

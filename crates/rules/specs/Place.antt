@@ -1,6 +1,5 @@
 -- Where the entry stands that a handle names.
 -- A reader may rely on this: nothing here looks at keys, so equal keys (request 8) would change nothing here.
-use mathlib.Core.List.{[]}
 use Prim.Native.Nat.{ℕ}
 use native.Mathlib.Decide.{ℕ-discrete}
 use Rattle.wavl.specs.Lists.{choose}

@@ -1,6 +1,6 @@
 -- Taking a strike away (document 01, "Taking a strike away", and the handles of "What a queue holds").
 -- A reader may rely on this: only the slot of the entry taken out changes hands; every other handle stays as it was.
-use mathlib.Core.List.{List, [], _∷_}
+use mathlib.Core.List.{List, _∷_}
 use Prim.Native.Nat.{ℕ, suc, _<_}
 use native.Mathlib.Decide.{decLt}
 use Rattle.wavl.specs.Entry.{Entry}

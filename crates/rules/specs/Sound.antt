@@ -1,6 +1,5 @@
 -- When a queue is sound: document 01's rules 1 to 7 where they speak of the queue, a named part for each.
 -- A reader may rely on this: rules 1, 3 and 7 speak of links and unused words, of which a queue has none; they come with the store.
-use mathlib.Core.Path.{_≡_}
 use mathlib.Core.List.{List, [], _∷_, _++_}
 use Prim.Native.Nat.{ℕ, _≤_, _<_}
 use Rattle.wavl.specs.Lists.{All, Once}

@@ -17,11 +17,7 @@ both-say false u e = not-yes e
 pub both-are : (t u : Bool) → t ≡ true → u ≡ true → ifte t u false ≡ true
 both-are t u e f = rw (e, f)
 
--- the first does not hold, and the second does
-pub past-says : (t u : Bool) → ifte t false u ≡ true → (t ≡ false) × (u ≡ true)
-past-says true u e = not-yes e
-past-says false u e = (refl, e)
-
+-- the first does not hold, and the second does (opened by `no-refusal` of crate `arena`)
 pub past-is : (t u : Bool) → t ≡ false → u ≡ true → ifte t false u ≡ true
 past-is t u e f = rw (e, f)
 

@@ -1,4 +1,5 @@
 -- The check decides soundness, and one answer alone does.
+-- A reader may rely on: decides, for any numbers; one-answer, that no second answer meets the promise.
 use Prim.Native.Nat.{ℕ}
 use mathlib.Core.Path.{_≡_, refl, sym, _∙_}
 use mathlib.Core.Bool.{Bool, true, false}
@@ -27,7 +28,3 @@ decides s t e = model-decides s t (sym e)
 pub one-answer : (s : List ℕ) (t u : Bool) → Decides s t → Decides s u → t ≡ u
 one-answer s true u d e = sym (e .yes .1 (d .yes .0 refl))
 one-answer s false u d e = sym (e .no .1 (d .no .0 refl))
-
--- so it is the model's
-pub decided-is : (s : List ℕ) (t : Bool) → Decides s t → t ≡ soundModel s
-decided-is s t d = one-answer s t (soundModel s) d (decides s (soundModel s) refl)

@@ -11,24 +11,21 @@ use Rattle.arena.specs.Words.{field, KEY, LEFT, RIGHT, RANK, BACK, GENERATION}
 use Rattle.tree.specs.Links.{rankOf}
 use Rattle.wavl.specs.Ranks.{Fits}
 use Rattle.rules.specs.Sound.{Generation}
+use Rattle.arena.proofs.Paths.{no-refusal, no-refusals}
 use Rattle.sound.specs.Nodes.{fitsTest, generationTest, ranksTest, nodeTest}
 use Rattle.sound.specs.Joints.{afterOf, beforeOf, risesTest, joinTest}
-use Rattle.sound.proofs.Choices.{both-say, both-are, past-says, past-is, choice-says, choice-is}
+use Rattle.sound.proofs.Choices.{both-say, both-are, past-is, choice-says, choice-is}
 
 pub fits-say : (r a b : ℕ) → fitsTest r a b ≡ true → Fits r a b
 unfolding fitsTest
 fits-say r a b e =
-    let p = past-says _ _ e in
-    let q = past-says _ _ (p .1) in
-    let u = past-says _ _ (q .1) in
-    let v = past-says _ _ (u .1) in
-    let w = past-says _ _ (v .1) in
-    let p′ = leb-false r a (p .0) in
-    let q′ = leb-false r b (q .0) in
-    let u′ = ltb-false 2 (r - a) (u .0) in
-    let v′ = ltb-false 2 (r - b) (v .0) in
-    let w′ = ltb-false b (r - a - 1) (w .0) in
-    record { over-a = p′; near-a = omega arith; over-b = q′; near-b = omega arith; bare = omega arith }
+    let n = no-refusals _ _ _ _ _ e in
+    let p = leb-false r a (n .0) in
+    let q = leb-false r b (n .1) in
+    let u = ltb-false 2 (r - a) (n .2) in
+    let v = ltb-false 2 (r - b) (n .3) in
+    let w = ltb-false b (r - a - 1) (n .4) in
+    record { over-a = p; near-a = omega arith; over-b = q; near-b = omega arith; bare = omega arith }
 
 pub fits-are : (r a b : ℕ) → Fits r a b → fitsTest r a b ≡ true
 unfolding fitsTest
@@ -43,8 +40,8 @@ fits-are r a b f =
 pub generation-says : (g top : ℕ) → generationTest g top ≡ true → Generation top g
 unfolding generationTest
 generation-says g top e =
-    let p = past-says _ _ e in
-    let q = past-says _ _ (p .1) in
+    let p = no-refusal _ _ e in
+    let q = no-refusal _ _ (p .1) in
     record { from-one = ltb-false g 1 (p .0); to-top = ltb-false top g (q .0) }
 
 pub generation-is : (g top : ℕ) → Generation top g → generationTest g top ≡ true
@@ -61,7 +58,7 @@ pub record GoodNode (s : List ℕ) (cap top back p : ℕ) : Type 0 where
 pub node-says : (s : List ℕ) (cap top back p : ℕ) → nodeTest s cap top back p ≡ true → GoodNode s cap top back p
 unfolding nodeTest ranksTest
 node-says s cap top back p e =
-    let a = past-says _ _ e in
+    let a = no-refusal _ _ e in
     let b = both-say _ _ (a .1) in
     let c = both-say _ _ (b .1) in
     record {

@@ -13,9 +13,10 @@ use Rattle.handle.specs.Numbers.{noSlot}
 use Rattle.arena.specs.Words.{field, head, KEY, LEFT, RIGHT, RANK, BACK, PREV, NEXT, GENERATION, VALUE, STACK, ROOT}
 use Rattle.rules.specs.Sound.{Generation}
 use Rattle.holds.specs.Free.{Blank}
+use Rattle.arena.proofs.Paths.{no-refusal}
 use Rattle.sound.specs.Walking.{deepest}
 use Rattle.sound.specs.Slots.{unlinkedTest, blankTest, restWith, restTest, childTest, hangsWith, hangsTest, slotTest, placeWith, placeTest, slotsTest}
-use Rattle.sound.proofs.Choices.{both-say, both-are, past-says, past-is, choice-says, choice-is}
+use Rattle.sound.proofs.Choices.{both-say, both-are, past-is, choice-says, choice-is}
 use Rattle.sound.proofs.NodeFacts.{generation-says, generation-is}
 
 module _ (s : List ℕ) (cap : ℕ) where
@@ -58,9 +59,9 @@ module _ (s : List ℕ) (cap : ℕ) where
       record {
         blank = b;
         retired = λ n. eqb-true _ top (c .0 (eq-eqb _ noSlot n));
-        low = λ n. leb-false h _ (past-says _ _ (c .1 (ne-eqb _ noSlot n)) .0);
-        stacked = λ n. let x = past-says (leb h (field s cap i BACK)) _ (c .1 (ne-eqb _ noSlot n)) in let y = both-say (eqb (field s cap (field s cap i BACK) STACK) i) _ (x .1) in eqb-true _ i (y .0);
-        generation = λ n. let x = past-says (leb h (field s cap i BACK)) _ (c .1 (ne-eqb _ noSlot n)) in let y = both-say (eqb (field s cap (field s cap i BACK) STACK) i) _ (x .1) in generation-says _ top (y .1);
+        low = λ n. leb-false h _ (no-refusal _ _ (c .1 (ne-eqb _ noSlot n)) .0);
+        stacked = λ n. let x = no-refusal (leb h (field s cap i BACK)) _ (c .1 (ne-eqb _ noSlot n)) in let y = both-say (eqb (field s cap (field s cap i BACK) STACK) i) _ (x .1) in eqb-true _ i (y .0);
+        generation = λ n. let x = no-refusal (leb h (field s cap i BACK)) _ (c .1 (ne-eqb _ noSlot n)) in let y = both-say (eqb (field s cap (field s cap i BACK) STACK) i) _ (x .1) in generation-says _ top (y .1);
       }
 
   rest-is : (top h i : ℕ) → AtRest top h i → restTest s cap top h i ≡ true
@@ -93,13 +94,13 @@ module _ (s : List ℕ) (cap : ℕ) where
   hangs-says : (i : ℕ) → hangsTest s cap i ≡ true → Hangs i
   unfolding hangsTest hangsWith
   hangs-says i e =
-      let a = past-says _ _ e in
+      let a = no-refusal _ _ e in
       let b = choice-says _ _ _ (a .1) in
       record {
         small = leb-false deepest _ (a .0);
         root = λ l. eqb-true _ i (b .0 (le-leb cap _ l));
-        rises = λ l. leb-false _ _ (past-says _ _ (b .1 (lt-leb cap _ l)) .0);
-        child = λ l. let x = past-says (leb (field s cap (field s cap i BACK) RANK) (field s cap i RANK)) _ (b .1 (lt-leb cap _ l)) in child-says i _ (x .1);
+        rises = λ l. leb-false _ _ (no-refusal _ _ (b .1 (lt-leb cap _ l)) .0);
+        child = λ l. let x = no-refusal (leb (field s cap (field s cap i BACK) RANK) (field s cap i RANK)) _ (b .1 (lt-leb cap _ l)) in child-says i _ (x .1);
       }
 
   hangs-is : (i : ℕ) → Hangs i → hangsTest s cap i ≡ true
@@ -142,9 +143,9 @@ module _ (s : List ℕ) (cap : ℕ) where
       let c = choice-says _ _ _ e in
       record {
         empty = λ l. eqb-true _ noSlot (c .0 (le-leb h p l));
-        low = λ l. leb-false cap _ (past-says _ _ (c .1 (lt-leb h p l)) .0);
-        rest = λ l. let x = past-says (leb cap (field s cap p STACK)) _ (c .1 (lt-leb h p l)) in let y = both-say (eqb (field s cap (field s cap p STACK) RANK) 0) _ (x .1) in eqb-true _ 0 (y .0);
-        back-is = λ l. let x = past-says (leb cap (field s cap p STACK)) _ (c .1 (lt-leb h p l)) in let y = both-say (eqb (field s cap (field s cap p STACK) RANK) 0) _ (x .1) in eqb-true _ p (y .1);
+        low = λ l. leb-false cap _ (no-refusal _ _ (c .1 (lt-leb h p l)) .0);
+        rest = λ l. let x = no-refusal (leb cap (field s cap p STACK)) _ (c .1 (lt-leb h p l)) in let y = both-say (eqb (field s cap (field s cap p STACK) RANK) 0) _ (x .1) in eqb-true _ 0 (y .0);
+        back-is = λ l. let x = no-refusal (leb cap (field s cap p STACK)) _ (c .1 (lt-leb h p l)) in let y = both-say (eqb (field s cap (field s cap p STACK) RANK) 0) _ (x .1) in eqb-true _ p (y .1);
       }
 
   place-is : (h p : ℕ) → GoodPlace h p → placeTest s cap h p ≡ true

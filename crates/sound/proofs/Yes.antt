@@ -30,13 +30,14 @@ use Rattle.holds.specs.Holds.{Unused, Holds, SoundStore}
 use Rattle.holds.proofs.Has.{Has}
 use Rattle.holds.proofs.States.{slot-entry, live-node}
 use Rattle.holds.proofs.Trees.{slot-low}
+use Rattle.arena.proofs.Paths.{no-refusal}
 use Rattle.sound.specs.Joints.{joinTest}
 use Rattle.sound.specs.Walking.{deepest, onward, walkModel, wholeTest}
 use Rattle.sound.specs.Slots.{slotsTest}
 use Rattle.sound.specs.Check.{topTest, unusedTest, rulesWith, rulesTest, headed, soundModel}
 use Rattle.sound.specs.declared.walking.Walked.{Walked}
 use Rattle.sound.specs.declared.walking.Walked.the-variants.{To, Broken}
-use Rattle.sound.proofs.Choices.{not-yes, both-say, past-says}
+use Rattle.sound.proofs.Choices.{not-yes, both-say}
 use Rattle.sound.proofs.NodeFacts.{Joint, join-says}
 use Rattle.sound.proofs.SlotFacts.{AtRest, Good, slots-say}
 use Rattle.sound.proofs.Rows.{chain-words, rising-from, once-chain}
@@ -83,10 +84,10 @@ few-of s cap p = let h : cap ≤ limit = p .few in omega arith
 rules-say : (s : List ℕ) (cap : ℕ) → Passing s cap → rulesTest s cap ≡ true → Passed s cap
 unfolding rulesTest rulesWith topTest
 rules-say s cap p e =
-    let a = past-says _ _ e in
+    let a = no-refusal _ _ e in
     let b = both-say (topTest (head s TOP)) _ (a .1) in
-    let t = past-says (ltb (head s TOP) 1) _ (b .0) in
-    let u = past-says (ltb topLimit (head s TOP)) _ (t .1) in
+    let t = no-refusal (ltb (head s TOP) 1) _ (b .0) in
+    let u = no-refusal (ltb topLimit (head s TOP)) _ (t .1) in
     let c = both-say (unusedTest 10 s) _ (b .1) in
     let d = both-say (slotsTest cap s cap (head s TOP) (head s HEIGHT)) _ (c .1) in
     record {

@@ -1,6 +1,6 @@
 -- Search by key: it finds an entry exactly when one has the key, and where none has, its place splits the chain.
--- A reader may rely on: search-right and search-finds for trees with rising keys; looked-bound for every ranked tree and key.
-use mathlib.Core.Logic.{inl, inr, _↔_}
+-- A reader may rely on: search-right for trees with rising keys; looked-bound for every ranked tree and key.
+use mathlib.Core.Logic.{inl, inr}
 use mathlib.Core.Path.{_≡_, refl, sym, ap, _∙_}
 use mathlib.Core.List.{List, [], _∷_, _++_}
 use Prim.Native.Nat.{ℕ, suc, _+_, _*_, _^_, _≤_, _<_}
@@ -10,15 +10,14 @@ use lib.Pow.{pow-mono}
 use Rattle.wavl.specs.Lists.{In}
 use Rattle.wavl.specs.Entry.{Entry, Rising}
 use Rattle.wavl.specs.Tree.{left, right, Tree, tip, fork, rank, inorder, size}
-use Rattle.wavl.specs.Way.{step, Way, Place, place, plug, here, whole, before, after}
+use Rattle.wavl.specs.Way.{step, Way, Place, place, plug, whole, before, after}
 use Rattle.wavl.specs.Ranks.{Ranks}
-use Rattle.wavl.specs.Placing.{insertAt}
 use Rattle.wavl.specs.Search.{KeyRound, equal, less, greater, keyRound, byKey, find, search, path, looked}
-use Rattle.wavl.proofs.Lists.{all-in, all-map, in-middle}
-use Rattle.wavl.proofs.Order.{IsFork, empty-place-order}
-use Rattle.wavl.proofs.Rising.{Between, Smaller, Greater, between, node-around, insert-rising, less-before}
+use Rattle.wavl.proofs.Lists.{all-in, in-middle}
+use Rattle.wavl.proofs.Order.{empty-place-order}
+use Rattle.wavl.proofs.Rising.{Between, Smaller, Greater, between, node-around}
 use Rattle.wavl.proofs.Rounds.{key-cases}
-use Rattle.wavl.proofs.Size.{size-bound, rank-le-19, rank-le-31}
+use Rattle.wavl.proofs.Size.{size-bound, rank-le-31}
 
 -- the key was found at this node of t
 pub record Hit (k : ℕ) (t : Tree) (a : Tree) (e : Entry) (r : ℕ) (b : Tree) (p : Way) : Type 0 where
@@ -76,23 +75,6 @@ search-right k t h = go (search k t) (find-whole k t []) (find-passed k t [] tt)
     go (place (fork a e r b) p) q f =
         record { back = q; key-is = f; present = rw (← q, node-around a e r b p) (in-middle e (before p ++ inorder a) (inorder b ++ after p)) }
 
--- search finds an entry exactly when some entry has the key
-pub search-finds : (k : ℕ) (t : Tree) → Rising (inorder t) → IsFork (here (search k t)) ↔ ((e : Entry) × In e (inorder t) × (e .key ≡ k))
-search-finds k t h = (there (search k t) (search-right k t h), back (search k t) (search-right k t h))
-  where
-    there : (w : Place) → Searched k t w → IsFork (here w) → (e : Entry) × In e (inorder t) × (e .key ≡ k)
-    there (place tip p) s i = absurd i
-    there (place (fork a e r b) p) s i = (e, s .present, s .key-is)
-
-    back : (w : Place) → Searched k t w → ((e : Entry) × In e (inorder t) × (e .key ≡ k)) → IsFork (here w)
-    back (place tip p) s i = absurd (s .absent (i .0) (i .1) (i .2))
-    back (place (fork a e r b) p) s i = tt
-
--- placing where the search missed keeps rule 4
-pub missed-rising : (e : Entry) (t : Tree) (p : Way) → Missed (e .key) t p → Rising (inorder t) → Rising (inorder (insertAt e p))
-missed-rising e t p m h =
-    insert-rising e p (all-map _ _ (λ x q. less-before x e q) (before p) (m .smaller)) (all-map _ _ (λ x q. less-before e x q) (after p) (m .greater)) (rw (m .back) h)
-
 -- the count is the length of the path in the tree
 find-path : (k : ℕ) (t : Tree) (p : Way) → looked (find k t p) ≡ length (path k t) + length p
 unfolding find looked path byKey
@@ -123,10 +105,6 @@ find-looked k (fork a e r b) p x =
 pub looked-rank : (k : ℕ) (t : Tree) → Ranks t → looked (search k t) ≤ rank t
 looked-rank k t x = let i = find-looked k t [] x in omega arith
 
-pub looked-empty : (k : ℕ) → looked (search k tip) ≡ 0
-unfolding find looked
-looked-empty k = refl
-
 -- "a search is bounded by that too" (request 14)
 pub looked-tight : (k : ℕ) (t : Tree) → Ranks t → 1 ≤ size t → 2 * 2 ^ looked (search k t) ≤ (size t + 1) * (size t + 1)
 looked-tight k t x h =
@@ -139,9 +117,6 @@ pub looked-bound : (k : ℕ) (t : Tree) → Ranks t → 2 ^ looked (search k t) 
 unfolding find looked size
 looked-bound k tip x = omega arith
 looked-bound k (fork a e r b) x = let i = looked-tight k (fork a e r b) x (omega arith) in omega arith
-
-pub looked-le-19 : (k : ℕ) (t : Tree) → Ranks t → size t ≤ 1024 → looked (search k t) ≤ 19
-looked-le-19 k t x h = let i = looked-rank k t x in let j = rank-le-19 t x h in omega arith
 
 pub looked-le-31 : (k : ℕ) (t : Tree) → Ranks t → size t ≤ 65535 → looked (search k t) ≤ 31
 looked-le-31 k t x h = let i = looked-rank k t x in let j = rank-le-31 t x h in omega arith

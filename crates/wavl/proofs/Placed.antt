@@ -9,10 +9,9 @@ use native.Mathlib.Omega.{arith}
 use Rattle.wavl.specs.Entry.{Entry}
 use Rattle.wavl.specs.Tree.{Side, left, right, other, Tree, tip, fork, node, rank, entry, child, leaf}
 use Rattle.wavl.specs.Way.{step, Way, plug}
-use Rattle.wavl.specs.Ranks.{Fits, Ranks, Ranked}
+use Rattle.wavl.specs.Ranks.{Fits, Ranks}
 use Rattle.wavl.specs.Placing.{placeRound, oneSide, alternating, restructure, insertClimb, insertAt}
 use Rattle.wavl.proofs.Order.{choose-cases, place-cases}
-use Rattle.wavl.proofs.Rule.{ranks→ranked, ranked→ranks}
 
 pub make : (d : Side) (a : Tree) (e : Entry) (r : ℕ) (b : Tree) → Ranks a → Ranks b → Fits r (rank a) (rank b) → Ranks (node d a e r b)
 make left a e r b x y f = (x, y, f)
@@ -103,7 +102,3 @@ insertAt-ranks e (step d e1 r1 s0 ∷ p) x =
     (λ l. insertClimb-ranks (leaf e) d e1 2 s0 p
     (record { first = new; second = w .0; one-up = refl; two-up = omega arith })
     (let q : r1 ≡ 1 = omega arith in rw q at (w .2)))
-
--- the same in document 01's words
-pub insert-ranked : (e : Entry) (p : Way) → Ranked (plug tip p) → Ranked (insertAt e p)
-insert-ranked e p x = ranks→ranked (insertAt e p) (insertAt-ranks e p (ranked→ranks (plug tip p) x))

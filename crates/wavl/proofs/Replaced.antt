@@ -1,5 +1,5 @@
--- The replacements of a removal: which entry replaces a node, that there are two at most, and that all entries but the one
--- taken out stay what they are, handles included.
+-- The replacements of a removal: which entry replaces a node, that there are two at most, and that the entries that move stay
+-- what they are, handles included.
 -- A reader may rely on: replacement-is is document 01's sentence word for word, for every node of a ranked tree.
 use mathlib.Core.Logic.{_⊎_, inl, inr, _↔_}
 use mathlib.Core.Path.{_≡_, refl, sym, ap, _∙_}
@@ -14,10 +14,10 @@ use Rattle.wavl.specs.Tree.{Side, left, right, Tree, tip, fork, inorder}
 use Rattle.wavl.specs.Way.{Step, step, Way, place, plug, before, after, neighbour}
 use Rattle.wavl.specs.Ranks.{Ranks}
 use Rattle.wavl.specs.Taking.{endmost, vacateEnd, vacate, movedEnd, moved, removeAt}
-use Rattle.wavl.proofs.Lists.{in-left, in-right, in-cases, last-of, some-none}
+use Rattle.wavl.proofs.Lists.{in-left, in-right, last-of, some-none}
 use Rattle.wavl.proofs.Order.{IsFork}
 use Rattle.wavl.proofs.Taken.{fork-rank, lone-leaf, front, front-last}
-use Rattle.wavl.proofs.Rising.{node-around, removed-around}
+use Rattle.wavl.proofs.Rising.{removed-around}
 
 -- "two replacements at most": the last node of a tree has a leaf for its left child, or none
 one-more : (t : Tree) → Ranks t → length (movedEnd right t) ≤ 1
@@ -115,23 +115,6 @@ replaces (fork a g q c) e r b p f h =
     let w = vacateEnd-way right (fork a g q c) (step left (endmost right (fork a g q c)) r b ∷ p) in
     let i : endmost right (fork a g q c) ≡ f = cc in
     record { further = w .0; side = left; sibling = b; way-is = w .1 ∙ ap (λ (x : Entry). w .0 ++ (step left x r b ∷ p)) i }
-
--- All entries but the one taken out stand in the tree afterwards, as they were: same slot, generation, key and value.
-module _ (a : Tree) (e : Entry) (r : ℕ) (b : Tree) (p : Way) (x : Ranks (plug (fork a e r b) p)) where
-  pub others-stay : (f : Entry) → In f (inorder (plug (fork a e r b) p)) → (f ≡ e) ⊎ In f (inorder (removeAt (fork a e r b) p))
-  others-stay f h = rw (removed-around a e r b p x) (go (in-cases f (before p ++ inorder a) _ (rw (node-around a e r b p) at h)))
-    where
-      go : In f (before p ++ inorder a) ⊎ In f (e ∷ (inorder b ++ after p)) → (f ≡ e) ⊎ In f ((before p ++ inorder a) ++ (inorder b ++ after p))
-      go (inl i) = inr (in-left f (before p ++ inorder a) (inorder b ++ after p) i)
-      go (inr (inl i)) = inl i
-      go (inr (inr i)) = inr (in-right f (before p ++ inorder a) (inorder b ++ after p) i)
-
-  pub none-new : (f : Entry) → In f (inorder (removeAt (fork a e r b) p)) → In f (inorder (plug (fork a e r b) p))
-  none-new f h = rw (node-around a e r b p) (go (in-cases f (before p ++ inorder a) _ (rw (removed-around a e r b p x) at h)))
-    where
-      go : In f (before p ++ inorder a) ⊎ In f (inorder b ++ after p) → In f ((before p ++ inorder a) ++ (e ∷ (inorder b ++ after p)))
-      go (inl i) = in-left f (before p ++ inorder a) (e ∷ (inorder b ++ after p)) i
-      go (inr i) = in-right f (before p ++ inorder a) (e ∷ (inorder b ++ after p)) (inr i)
 
 -- the entries that move are entries of the tree
 endmost-in : (d : Side) (t : Tree) → IsFork t → In (endmost d t) (inorder t)

@@ -1,27 +1,19 @@
 -- What search answers as a call: the equal entry, or the last node looked at and the side, or Empty, each with the count.
 -- A reader may rely on: answer-right says all of it, for a tree with rising keys.
 use mathlib.Core.Path.{_≡_, refl, sym}
-use mathlib.Core.List.{List, [], _∷_, _++_, append-assoc}
+use mathlib.Core.List.{List, [], _∷_, _++_}
 use mathlib.Core.Option.{some}
 use Prim.Native.Nat.{ℕ, _<_}
 use lib.ListN.{length}
-use Rattle.wavl.specs.Lists.{In, first, last}
+use Rattle.wavl.specs.Lists.{In, last}
 use Rattle.wavl.specs.Entry.{Entry, Rising}
-use Rattle.wavl.specs.Tree.{Side, left, right, other, Tree, tip, fork, pick, inorder}
-use Rattle.wavl.specs.Way.{step, Way, Place, place, plug, before, after, neighbour}
-use Rattle.wavl.specs.Search.{KeyRound, equal, less, greater, keyRound, byKey, find, search, path, looked, Found, equalTo, nearest, emptyTree, answer, countOf}
-use Rattle.wavl.proofs.Lists.{in-middle, last-of, some-none}
+use Rattle.wavl.specs.Tree.{Side, left, right, Tree, tip, fork, pick, inorder}
+use Rattle.wavl.specs.Way.{step, Way, Place, place, plug, before, after}
+use Rattle.wavl.specs.Search.{KeyRound, equal, less, greater, keyRound, byKey, find, search, path, looked, Found, equalTo, nearest, emptyTree, answer}
+use Rattle.wavl.proofs.Lists.{in-middle, some-none}
 use Rattle.wavl.proofs.Order.{IsFork}
 use Rattle.wavl.proofs.Rising.{Between, node-around}
 use Rattle.wavl.proofs.Found.{Searched, search-right, looked-path}
-
--- the last node looked at is the new entry's chain neighbour on the other side of the empty place, and the side is right
-pub nearest-neighbour : (d : Side) (e : Entry) (r : ℕ) (s : Tree) (p : Way) → neighbour (other d) (place tip (step d e r s ∷ p)) ≡ some e
-unfolding neighbour first before after
-nearest-neighbour left e r s p = refl
-nearest-neighbour right e r s p =
-    let q : before p ++ (inorder s ++ (e ∷ [])) ≡ (before p ++ inorder s) ++ (e ∷ []) = simp append-assoc in
-    rw q (last-of (before p ++ inorder s) e)
 
 abbrev pub OnSide : Side → ℕ → Entry → Type 0
 OnSide left k e = k < e .key
@@ -106,10 +98,3 @@ answer-right k t h = go t (search k t) (search-right k t h) (λ f. find-last k t
         record { absent = s .absent; on-side = nearest-side k d e r u p (s .between-nodes); present = i; last-looked = l (fork-of t e i); count-is = c }
     go t (place (fork a e r b) p) s l c =
         record { key-is = s .key-is; present = s .present; last-looked = l (fork-of t e (s .present)); count-is = c }
-
--- the count in the answer is the count of nodes looked at
-pub answer-count : (w : Place) → countOf (answer w) ≡ looked w
-unfolding answer countOf looked
-answer-count (place tip []) = refl
-answer-count (place tip (step d e r s ∷ p)) = refl
-answer-count (place (fork a e r b) p) = refl

@@ -4,14 +4,13 @@ use mathlib.Core.Path.{_≡_, refl}
 use mathlib.Core.List.{[], _∷_}
 use Prim.Native.Nat.{ℕ, suc, _+_, _-_, _≤_, _<_}
 use native.Mathlib.Decide.{ℕ-discrete}
-use native.Mathlib.Omega.{arith}
 use Rattle.wavl.specs.Lists.{choose}
 use Rattle.wavl.specs.Entry.{Entry}
-use Rattle.wavl.specs.Tree.{Side, left, right, other, Tree, tip, fork, node, rank, child, leaf}
-use Rattle.wavl.specs.Way.{step, Way, place, plug}
+use Rattle.wavl.specs.Tree.{Side, other, Tree, tip, fork, node, rank, child, leaf}
+use Rattle.wavl.specs.Way.{step, Way, plug}
 use Rattle.wavl.specs.Placing.{placeRound, restructure, insertClimb, insertAt}
 use Rattle.wavl.specs.Taking.{roundAt, rotate, lowerBoth, rotateTwice, removeClimb, settle}
-use Rattle.wavl.specs.Search.{KeyRound, equal, less, greater, keyRound, byKey, find}
+use Rattle.wavl.specs.Search.{KeyRound, equal, less, greater, byKey}
 use Rattle.wavl.proofs.Order.{choose-cases, place-cases}
 use Rattle.wavl.proofs.Removed.{take-cases}
 
@@ -113,33 +112,10 @@ module _ (n0 : Tree) (d : Side) (e1 : Entry) (r1 : ℕ) (s0 : Tree) (p : Way) wh
       take-cases (λ t. t ≡ plug (rotateTwice d n0 e1 r1 s0 (child d s0)) p) (roundAt d (rank n0) r1 s0) _ _ _ _ _
       (λ f. absurd (h f)) (λ f g. absurd (i g)) (λ f g x. absurd (j x)) (λ f g x y. absurd (k y)) (λ f g x y. refl)
 
--- Search.
+-- Search: a property of a round's outcome, by its cases.
 pub key-cases : {A : Type 0} (P : A → Type 0) {k l : ℕ} (x : KeyRound k l) (a b c : A)
     → (k ≡ l → P a) → (k < l → P b) → (l < k → P c) → P (byKey x a b c)
 unfolding byKey
 key-cases P (equal x) a b c f g h = f x
 key-cases P (less x) a b c f g h = g x
 key-cases P (greater x) a b c f g h = h x
-
-pub find-missing : (k : ℕ) (p : Way) → find k tip p ≡ place tip p
-unfolding find
-find-missing k p = refl
-
-module _ (k : ℕ) (a : Tree) (e : Entry) (r : ℕ) (b : Tree) (p : Way) where
-  pub find-equal : k ≡ e .key → find k (fork a e r b) p ≡ place (fork a e r b) p
-  unfolding find
-  find-equal h =
-      key-cases (λ t. t ≡ place (fork a e r b) p) (keyRound k (e .key)) _ _ _
-      (λ f. refl) (λ f. absurd (omega arith)) (λ f. absurd (omega arith))
-
-  pub find-less : k < e .key → find k (fork a e r b) p ≡ find k a (step left e r b ∷ p)
-  unfolding find
-  find-less h =
-      key-cases (λ t. t ≡ find k a (step left e r b ∷ p)) (keyRound k (e .key)) _ _ _
-      (λ f. absurd (omega arith)) (λ f. refl) (λ f. absurd (omega arith))
-
-  pub find-greater : e .key < k → find k (fork a e r b) p ≡ find k b (step right e r a ∷ p)
-  unfolding find
-  find-greater h =
-      key-cases (λ t. t ≡ find k b (step right e r a ∷ p)) (keyRound k (e .key)) _ _ _
-      (λ f. absurd (omega arith)) (λ f. absurd (omega arith)) (λ f. refl)

@@ -1,5 +1,5 @@
 -- How many entries a ranked tree has at least: 2 · 2^rank ≤ (n + 1)², and what follows of ranks.
--- A reader may rely on: size-bound for n ≥ 1; rank ≤ 19 with 1,024 entries and ≤ 31 with 65,535; size is the chain's length.
+-- A reader may rely on: size-bound for n ≥ 1; rank ≤ 31 with 65,535 entries; size is the chain's length.
 use mathlib.Core.Path.{_≡_, refl}
 use mathlib.Core.List.{_∷_}
 use Prim.Native.Nat.{ℕ, suc, _+_, _*_, _^_, _≤_, _<_}
@@ -75,9 +75,6 @@ rank-le t n r x h m = go (decLe (rank t) r)
         let k : size t + 1 ≤ n + 1 = omega arith in
         let s : (size t + 1) * (size t + 1) ≤ (n + 1) * (n + 1) = mul-le-mul k k in
         absurd (omega arith)
-
-pub rank-le-19 : (t : Tree) → Ranks t → size t ≤ 1024 → rank t ≤ 19
-rank-le-19 t x h = rank-le t 1024 19 x h (omega arith)
 
 pub rank-le-31 : (t : Tree) → Ranks t → size t ≤ 65535 → rank t ≤ 31
 rank-le-31 t x h = rank-le t 65535 31 x h (omega arith)

@@ -8,9 +8,8 @@ use native.Mathlib.Omega.{arith}
 use Rattle.wavl.specs.Entry.{Entry}
 use Rattle.wavl.specs.Tree.{Side, left, right, Tree, tip, fork, node, rank, leaf, inorder}
 use Rattle.wavl.specs.Way.{step, Way, plug, before, after, around}
-use Rattle.wavl.specs.Ranks.{Fits, Ranks, Ranked}
+use Rattle.wavl.specs.Ranks.{Fits, Ranks}
 use Rattle.wavl.specs.Taking.{settle, endmost, vacateEnd, vacate, removeAt}
-use Rattle.wavl.proofs.Rule.{ranks→ranked, ranked→ranks}
 use Rattle.wavl.proofs.Order.{Same, plug-same, plug-around, IsFork}
 use Rattle.wavl.proofs.Placed.{WayRanks, unplug-ranks}
 use Rattle.wavl.proofs.Removed.{Kept, removeClimb-kept}
@@ -102,8 +101,3 @@ removeAt-shows a e r b p x =
     let v = vacate-emptied a e r b p (y .0) (y .1) in
     let s = settle-shows (vacate (fork a e r b) p) (v .ranks) in
     record { ranks = s .ranks; order = s .order ∙ v .order }
-
--- rule 2 in document 01's words
-pub remove-ranked : (a : Tree) (e : Entry) (r : ℕ) (b : Tree) (p : Way) → Ranked (plug (fork a e r b) p) → Ranked (removeAt (fork a e r b) p)
-remove-ranked a e r b p x =
-    ranks→ranked (removeAt (fork a e r b) p) (removeAt-shows a e r b p (ranked→ranks (plug (fork a e r b) p) x) .ranks)

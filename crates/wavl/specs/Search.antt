@@ -63,11 +63,6 @@ answer (place tip []) = emptyTree
 answer (place tip (step d e r s ∷ p)) = nearest e d (suc (length p))
 answer (place (fork a e r b) p) = equalTo e (suc (length p))
 
-unfoldable pub countOf : Found → ℕ
-countOf (equalTo e n) = n
-countOf (nearest e d n) = n
-countOf emptyTree = 0
-
 -- the node that holds the slot i: a handle's place
 abbrev pub orElse : Place → Place → Place
 orElse (place tip p) q = q

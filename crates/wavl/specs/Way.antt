@@ -23,13 +23,7 @@ unfoldable pub plug : Tree → Way → Tree
 plug t [] = t
 plug t (step d e r s ∷ p) = plug (node d t e r s) p
 
--- what hangs at a place, the way up from it, the whole tree that it lies in
-abbrev pub here : Place → Tree
-here (place t p) = t
-
-abbrev pub above : Place → Way
-above (place t p) = p
-
+-- the whole tree that a place lies in
 abbrev pub whole : Place → Tree
 whole (place t p) = plug t p
 

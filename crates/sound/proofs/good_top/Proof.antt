@@ -1,19 +1,19 @@
-use Rattle.arena.proofs.Paths.{paths, tested}
+use Rattle.arena.proofs.Paths.{paths}
 use Rattle.sound.specs.Check.{topTest}
 use Rattle.sound.proofs.good_top.Statement.{statement}
 use Rattle.sound.proofs.good_top.Tie as tie
 
 returns : tie.Need-returns
 unfolding topTest
-returns c = search (tested, paths) depth 14
+returns c = search paths depth 14
 
 returns-2 : tie.Need-returns-2
 unfolding topTest
-returns-2 c = search (tested, paths) depth 14
+returns-2 c = search paths depth 14
 
 returns-3 : tie.Need-returns-3
 unfolding topTest
-returns-3 c = search (tested, paths) depth 14
+returns-3 c = search paths depth 14
 
 pub good-top-spec : {M : Type 1} → statement M
 good-top-spec = tie.close (tie.spec returns returns-2 returns-3)

@@ -1,5 +1,4 @@
-use Rattle.arena.specs.Slots.{pushed}
-use Rattle.arena.proofs.Paths.{paths}
+use Rattle.arena.proofs.Answers.{push-is}
 use borrow.Author.Needs.{needs}
 use Rattle.arena.proofs.slots.push.Statement.{statement}
 use Rattle.arena.proofs.slots.push.Tie as tie
@@ -26,8 +25,12 @@ same-length : tie.Need-same-length
 same-length c = search needs
 
 returns : tie.Need-returns
-unfolding pushed
-returns c = cc
+returns c =
+    push-is _ _ _ _ _ _ _ _ _
+    (c .before .before .before .before .before .before .before .before .before .before .before .before .before .before .blank .ensures)
+    (c .before .before .before .before .before .before .before .before .before .before .put .ensures)
+    (c .before .before .before .before .before .before .put2 .ensures)
+    (c .before .before .put-head .ensures)
 
 pub push-spec : {M : Type 1} → statement M
 push-spec =

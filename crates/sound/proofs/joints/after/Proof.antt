@@ -1,4 +1,4 @@
-use Rattle.arena.proofs.Paths.{paths, tested}
+use Rattle.arena.proofs.Paths.{paths}
 use Rattle.sound.specs.Joints.{afterOf}
 use borrow.Author.Needs.{needs}
 use Rattle.sound.proofs.joints.after.Statement.{statement}
@@ -9,14 +9,14 @@ field-requires c κs = search needs
 
 returns : tie.Need-returns
 unfolding afterOf
-returns c = search (tested, paths) depth 14
+returns c = search paths depth 14
 
 head-requires : tie.Need-head-requires
 head-requires c κs = search needs
 
 returns-2 : tie.Need-returns-2
 unfolding afterOf
-returns-2 c = search (tested, paths) depth 14
+returns-2 c = search paths depth 14
 
 pub after-spec : {M : Type 1} → statement M
 after-spec = tie.close (tie.spec field-requires returns head-requires returns-2)

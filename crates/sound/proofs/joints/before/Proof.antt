@@ -1,4 +1,4 @@
-use Rattle.arena.proofs.Paths.{paths, tested}
+use Rattle.arena.proofs.Paths.{paths}
 use Rattle.sound.specs.Joints.{beforeOf}
 use borrow.Author.Needs.{needs}
 use Rattle.sound.proofs.joints.before.Statement.{statement}
@@ -9,14 +9,14 @@ field-requires c κs = search needs
 
 returns : tie.Need-returns
 unfolding beforeOf
-returns c = search (tested, paths) depth 14
+returns c = search paths depth 14
 
 head-requires : tie.Need-head-requires
 head-requires c κs = search needs
 
 returns-2 : tie.Need-returns-2
 unfolding beforeOf
-returns-2 c = search (tested, paths) depth 14
+returns-2 c = search paths depth 14
 
 pub before-spec : {M : Type 1} → statement M
 before-spec = tie.close (tie.spec field-requires returns head-requires returns-2)

@@ -1,4 +1,4 @@
-use Rattle.arena.proofs.Paths.{paths, tested}
+use Rattle.arena.proofs.Paths.{paths}
 use Rattle.sound.specs.Joints.{joinTest}
 use borrow.Author.Needs.{needs}
 use Rattle.sound.proofs.joints.joins.Statement.{statement}
@@ -9,21 +9,21 @@ after-requires c κs = search needs
 
 returns : tie.Need-returns
 unfolding joinTest
-returns c = search (tested, paths) depth 14
+returns c = search paths depth 14
 
 before-requires : tie.Need-before-requires
 before-requires c κs = search needs
 
 returns-2 : tie.Need-returns-2
 unfolding joinTest
-returns-2 c = search (tested, paths) depth 14
+returns-2 c = search paths depth 14
 
 rises-requires : tie.Need-rises-requires
 rises-requires c κs = search needs
 
 returns-3 : tie.Need-returns-3
 unfolding joinTest
-returns-3 c = search (tested, paths) depth 14
+returns-3 c = search paths depth 14
 
 pub joins-spec : {M : Type 1} → statement M
 joins-spec =

@@ -1,5 +1,5 @@
 use Rattle.sound.proofs.Answers.{lt-asks}
-use Rattle.arena.proofs.Paths.{paths, tested}
+use Rattle.arena.proofs.Paths.{paths}
 use Rattle.sound.specs.Joints.{risesTest}
 use borrow.Author.Needs.{needs}
 use Rattle.sound.proofs.joints.rises.Statement.{statement}
@@ -7,11 +7,11 @@ use Rattle.sound.proofs.joints.rises.Tie as tie
 
 returns : tie.Need-returns
 unfolding risesTest
-returns c = search (tested, paths) depth 14
+returns c = search paths depth 14
 
 returns-2 : tie.Need-returns-2
 unfolding risesTest
-returns-2 c = search (tested, paths) depth 14
+returns-2 c = search paths depth 14
 
 field-requires : tie.Need-field-requires
 field-requires c κs = search needs

@@ -1,4 +1,4 @@
-use Rattle.arena.proofs.Paths.{paths, tested}
+use Rattle.arena.proofs.Paths.{paths}
 use Rattle.sound.specs.Nodes.{fitsTest}
 use borrow.Author.Needs.{needs}
 use Rattle.sound.proofs.nodes.fits.Statement.{statement}
@@ -6,25 +6,25 @@ use Rattle.sound.proofs.nodes.fits.Tie as tie
 
 returns : tie.Need-returns
 unfolding fitsTest
-returns c = search (tested, paths) depth 14
+returns c = search paths depth 14
 
 returns-2 : tie.Need-returns-2
 unfolding fitsTest
-returns-2 c = search (tested, paths) depth 14
+returns-2 c = search paths depth 14
 
 sub-if3 : tie.Need-sub-if3
 sub-if3 c = search needs
 
 returns-3 : tie.Need-returns-3
 unfolding fitsTest
-returns-3 c = search (tested, paths) depth 14
+returns-3 c = search paths depth 14
 
 sub-if4 : tie.Need-sub-if4
 sub-if4 c = search needs
 
 returns-4 : tie.Need-returns-4
 unfolding fitsTest
-returns-4 c = search (tested, paths) depth 14
+returns-4 c = search paths depth 14
 
 sub-if5 : tie.Need-sub-if5
 sub-if5 c = search needs
@@ -34,11 +34,11 @@ sub-if5-2 c = search needs
 
 returns-5 : tie.Need-returns-5
 unfolding fitsTest
-returns-5 c = search (tested, paths) depth 14
+returns-5 c = search paths depth 14
 
 returns-6 : tie.Need-returns-6
 unfolding fitsTest
-returns-6 c = search (tested, paths) depth 14
+returns-6 c = search paths depth 14
 
 pub fits-spec : {M : Type 1} → statement M
 fits-spec =

@@ -1,5 +1,5 @@
 use Rattle.sound.proofs.Answers.{generation-asks}
-use Rattle.arena.proofs.Paths.{paths, tested}
+use Rattle.arena.proofs.Paths.{paths}
 use Rattle.sound.specs.Nodes.{nodeTest}
 use borrow.Author.Needs.{needs}
 use Rattle.sound.proofs.nodes.good_node.Statement.{statement}
@@ -7,14 +7,14 @@ use Rattle.sound.proofs.nodes.good_node.Tie as tie
 
 returns : tie.Need-returns
 unfolding nodeTest
-returns c = search (tested, paths) depth 14
+returns c = search paths depth 14
 
 field-requires : tie.Need-field-requires
 field-requires c κs = search needs
 
 returns-2 : tie.Need-returns-2
 unfolding nodeTest
-returns-2 c = search (tested, paths) depth 14
+returns-2 c = search paths depth 14
 
 field-requires-2 : tie.Need-field-requires-2
 field-requires-2 c κs = search needs

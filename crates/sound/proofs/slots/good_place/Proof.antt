@@ -1,4 +1,4 @@
-use Rattle.arena.proofs.Paths.{paths, tested}
+use Rattle.arena.proofs.Paths.{paths}
 use Rattle.sound.proofs.Answers.{place-reads, place-asks}
 use Rattle.sound.specs.Slots.{placeWith}
 use borrow.Author.Needs.{needs}
@@ -10,18 +10,18 @@ field-requires c κs = search needs
 
 returns : tie.Need-returns
 unfolding placeWith
-returns c = search (place-reads, tested, paths) depth 14
+returns c = search (place-reads, paths) depth 14
 
 returns-2 : tie.Need-returns-2
 unfolding placeWith
-returns-2 c = search (place-reads, tested, paths) depth 14
+returns-2 c = search (place-reads, paths) depth 14
 
 field-requires-2 : tie.Need-field-requires-2
 field-requires-2 c κs = search needs
 
 returns-3 : tie.Need-returns-3
 unfolding placeWith
-returns-3 c = search (place-reads, tested, paths) depth 14
+returns-3 c = search (place-reads, paths) depth 14
 
 field-requires-3 : tie.Need-field-requires-3
 field-requires-3 c κs = search needs

@@ -12,7 +12,7 @@ hangs-requires c κs = search needs
 
 returns : tie.Need-returns
 unfolding slotTest
-returns c = search (tested, paths) depth 14
+returns c = search paths depth 14
 
 is-blank-requires : tie.Need-is-blank-requires
 is-blank-requires c κs = search needs

@@ -1,4 +1,4 @@
-use Rattle.arena.proofs.Paths.{paths, tested}
+use Rattle.arena.proofs.Paths.{paths}
 use Rattle.sound.proofs.Answers.{eq-asks, hangs-reads}
 use Rattle.sound.specs.Slots.{hangsWith}
 use borrow.Author.Needs.{needs}
@@ -13,7 +13,7 @@ field-requires-2 c κs = search needs
 
 returns : tie.Need-returns
 unfolding hangsWith
-returns c = search (hangs-reads, tested, paths) depth 14
+returns c = search (hangs-reads, paths) depth 14
 
 head-requires : tie.Need-head-requires
 head-requires c κs = search needs
@@ -27,14 +27,14 @@ field-requires-3 c κs = search needs
 
 returns-3 : tie.Need-returns-3
 unfolding hangsWith
-returns-3 c = search (hangs-reads, tested, paths) depth 14
+returns-3 c = search (hangs-reads, paths) depth 14
 
 is-child-requires : tie.Need-is-child-requires
 is-child-requires c κs = search needs
 
 returns-4 : tie.Need-returns-4
 unfolding hangsWith
-returns-4 c = search (hangs-reads, tested, paths) depth 14
+returns-4 c = search (hangs-reads, paths) depth 14
 
 pub hangs-spec : {M : Type 1} → statement M
 hangs-spec =

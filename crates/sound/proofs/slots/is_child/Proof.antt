@@ -1,5 +1,5 @@
 use Rattle.sound.proofs.Answers.{eq-asks}
-use Rattle.arena.proofs.Paths.{paths, tested}
+use Rattle.arena.proofs.Paths.{paths}
 use Rattle.sound.specs.Slots.{childTest}
 use borrow.Author.Needs.{needs}
 use Rattle.sound.proofs.slots.is_child.Statement.{statement}
@@ -10,7 +10,7 @@ field-requires c κs = search needs
 
 returns : tie.Need-returns
 unfolding childTest
-returns c = search (tested, paths) depth 14
+returns c = search paths depth 14
 
 field-requires-2 : tie.Need-field-requires-2
 field-requires-2 c κs = search needs

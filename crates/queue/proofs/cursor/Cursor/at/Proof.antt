@@ -1,6 +1,5 @@
 use Rattle.arena.proofs.Answers.{passes-room}
-use Rattle.queue.specs.Moving.{standCall}
-use Rattle.queue.specs.Moving.{standIn}
+use Rattle.queue.specs.Moving.{standCall, standIn}
 use Rattle.queue.proofs.Answers.{on-passes, on-fails, if-live, if-dead}
 use Rattle.queue.proofs.Promising.{stand-looks}
 use borrow.Author.Needs.{needs}
@@ -14,23 +13,22 @@ enum-known-t : tie.Need-enum-known-t
 enum-known-t c = search needs
 
 live-requires : tie.Need-live-requires
-unfolding standCall standIn
-live-requires c κs = search (on-passes, on-fails, passes-room, if-live, if-dead)
+live-requires c κs = search passes-room
 
 returns : tie.Need-returns
 unfolding standCall standIn
-returns c = search (stand-looks, on-passes, on-fails, passes-room, if-live, if-dead)
+returns c = search (stand-looks, on-passes, if-live)
 
 returns-2 : tie.Need-returns-2
 unfolding standCall standIn
-returns-2 c = search (stand-looks, on-passes, on-fails, passes-room, if-live, if-dead)
+returns-2 c = search (stand-looks, on-passes, if-dead)
 
 enum-told : tie.Need-enum-told
 enum-told c = search needs
 
 returns-3 : tie.Need-returns-3
 unfolding standCall standIn
-returns-3 c = search (stand-looks, on-passes, on-fails, passes-room, if-live, if-dead)
+returns-3 c = search (stand-looks, on-fails)
 
 pub at-spec : {M : Type 1} → statement M
 at-spec =
