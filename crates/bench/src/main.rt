@@ -30,7 +30,7 @@ fn strike(s: &mut [u64], k: i64, value: u64) {
 }
 
 fn main() {
-    let mut s = [0u64; 10256];
+    let mut s = [0u64; 10266];
     lay(&mut s, 0, 3);
     lay(&mut s, 1025, 3);
     lay(&mut s, 1, 3);

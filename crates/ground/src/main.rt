@@ -116,7 +116,7 @@ fn last_first(s: &mut [u64]) {
 }
 
 fn main() {
-    let mut large = [7u64; 10256];
+    let mut large = [7u64; 10266];
     let mut short = [7u64; 10255];
     let mut small = [7u64; 64];
     lay(&mut large, 0, 3);

@@ -6,10 +6,9 @@ use mathlib.Core.List.{List}
 use native.Mathlib.Omega.{arith}
 use native.Mathlib.Decide.{decLt}
 use borrow.Author.Tests.{lt-ltb, le-ltb}
-use Rattle.arena.specs.Words.{Room, headWords, fields, put, putHead, LEFT, RIGHT, RANK, BACK, PREV, NEXT, FIRST, LAST, ROOT}
+use Rattle.arena.specs.Words.{Room, headWords, fields, put, putHead, LEFT, RIGHT, RANK, BACK, ROOT}
 use Rattle.arena.proofs.Laws.{length-put, length-putHead, head-put, rest-put, head-other, field-putHead, rest-putHead}
 use Rattle.tree.specs.Links.{withBack, withChild, withNode}
-use Rattle.chain.specs.Kept.{ChainOnly}
 use Rattle.chain.proofs.Keeps.{field-other}
 use Rattle.holds.specs.Writes.{Only}
 
@@ -68,15 +67,6 @@ module _ (cap : ℕ) (W : ℕ → ℕ → Type 0) (H : ℕ → Type 0) where
       (only-trans _ _ _ (only-put _ i (LEFT + d) near hi (omega arith) (w (LEFT + d) (omega arith) (omega arith)))
       (only-trans _ _ _ (only-put _ i (RIGHT - d) far hi (omega arith) (w (RIGHT - d) (omega arith) (omega arith)))
       (only-put _ i RANK rank hi (omega arith) (w RANK (omega arith) (omega arith)))))
-
-  -- the steps of crate `chain` by their own law
-  pub only-chain : (s t : List ℕ) → ChainOnly s t cap → ((j : ℕ) → W j PREV) → ((j : ℕ) → W j NEXT) → H FIRST → H LAST → Only s t cap W H
-  only-chain s t c wp wn hf hl = record {
-    long = c .long;
-    slots = λ j g hj hg n. c .slots j g hj hg (λ e. n (rw e (wp j))) (λ e. n (rw e (wn j)));
-    heads = λ h hh n. c .heads h hh (λ e. n (rw e hf)) (λ e. n (rw e hl));
-    rest = c .rest;
-  }
 
 -- what may differ here may differ there
 pub only-weaken : (s t : List ℕ) (cap : ℕ) (W W′ : ℕ → ℕ → Type 0) (H H′ : ℕ → Type 0)

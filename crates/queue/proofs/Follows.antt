@@ -50,14 +50,14 @@ nothing-changes {t = t} {q = q} w k e =
 module _ {s : List ℕ} {q : Queue} (k : Holds s q) where
   -- Normal: "1: a new entry is needed and no slot is free", and no other number
   module _ (t : List ℕ) (key : ℤ) (value : ℕ) (r : I.Inserted) (w : InsertPromise s t key value r) where
-    pub insert-refused-1 : (insertedMeans r ≡ notInserted notWithinCapacity) ↔ ((¬ Has (stored key) q) × NoSlot q)
-    insert-refused-1 = rw (w .means q k .0) (normal-refused-1 (stored key) value q (sound-of k))
+    pub insert-refused-by-1 : (insertedMeans r ≡ notInserted notWithinCapacity) ↔ ((¬ Has (stored key) q) × NoSlot q)
+    insert-refused-by-1 = rw (w .means q k .0) (normal-refused-1 (stored key) value q (sound-of k))
 
-    pub insert-refused-only : (n : ℕ) → insertedMeans r ≡ notInserted n → n ≡ notWithinCapacity
-    insert-refused-only n e = normal-refused-only (stored key) value q (sound-of k) n (sym (w .means q k .0) ∙ e)
+    pub insert-refused-by : (n : ℕ) → insertedMeans r ≡ notInserted n → n ≡ notWithinCapacity
+    insert-refused-by n e = normal-refused-only (stored key) value q (sound-of k) n (sym (w .means q k .0) ∙ e)
 
-    pub insert-unchanged : (n : ℕ) → insertedMeans r ≡ notInserted n → t ≡ s
-    insert-unchanged n e = nothing-changes w k (normal-unchanged (stored key) q value n (sym (w .means q k .0) ∙ e))
+    pub insert-stays : (n : ℕ) → insertedMeans r ≡ notInserted n → t ≡ s
+    insert-stays n e = nothing-changes w k (normal-unchanged (stored key) q value n (sym (w .means q k .0) ∙ e))
 
   -- Empty: "2: Empty kind on a queue with entries"
   module _ (t : List ℕ) (key : ℤ) (value : ℕ) (r : I.Inserted) (w : EmptyPromise s t key value r) where

@@ -1,7 +1,7 @@
 -- Removal and reading by handle on a store that holds a queue do what document 01 says.
 -- A reader may rely on: remove-means and read-means, for every handle, live or not.
 use Prim.Native.Nat.{ℕ, _≤_, _<_}
-use mathlib.Core.Path.{_≡_, refl, sym, ap, _∙_}
+use mathlib.Core.Path.{_≡_, refl, _∙_}
 use mathlib.Core.Bool.{true}
 use mathlib.Core.List.{List, _∷_, _++_}
 use native.Mathlib.Decide.{decLt}
@@ -14,11 +14,11 @@ use Rattle.arena.specs.declared.entries.Entry as A
 use Rattle.arena.proofs.KeyLaws.{signed-undone}
 use Rattle.wavl.specs.Entry.{Entry, slots}
 use Rattle.wavl.specs.Tree.{Tree, fork, inorder}
-use Rattle.wavl.specs.Way.{Way, plug, before, after}
+use Rattle.wavl.specs.Way.{Way, plug}
 use Rattle.wavl.specs.Taking.{removeAt}
 use Rattle.wavl.proofs.Rule.{ranked→ranks}
 use Rattle.wavl.proofs.Size.{rank-le-31}
-use Rattle.wavl.proofs.Rising.{node-around, removed-around}
+use Rattle.wavl.proofs.Rising.{removed-around}
 use Rattle.chain.specs.Links.{joined}
 use Rattle.remove.specs.Take.{takeOut}
 use Rattle.remove.specs.Remove.{letGo, noted, removeLive, removeBy, readBy}
@@ -30,7 +30,7 @@ use Rattle.rules.specs.Look.{readSpot, read}
 use Rattle.rules.specs.Remove.{noteOf, removeSpot, remove}
 use Rattle.rules.specs.Sound.{LiveGeneration, Sound}
 use Rattle.rules.proofs.Lists.{all-at}
-use Rattle.rules.proofs.Places.{SpotIs, spot-is}
+use Rattle.rules.proofs.Places.{smallerOf, greaterOf, entries-around, SpotIs, spot-is}
 use Rattle.rules.proofs.Removing.{live-once, remove-sound}
 use Rattle.holds.specs.Ends.{firstSlot, lastSlot}
 use Rattle.holds.specs.Handles.{plain, isSpot}
@@ -65,10 +65,10 @@ module _ {s : List ℕ} {q : Queue} (k : Holds s q) (h : H.Handle) (a : Tree) (x
   cap = q .capacity
 
   abbrev l : List Entry
-  l = before p ++ inorder a
+  l = smallerOf a p
 
   abbrev m : List Entry
-  m = inorder b ++ after p
+  m = greaterOf b p
 
   abbrev t : Tree
   t = removeAt (fork a x r b) p
@@ -80,7 +80,7 @@ module _ {s : List ℕ} {q : Queue} (k : Holds s q) (h : H.Handle) (a : Tree) (x
   C = rw tree-is at (takes-out s cap a x r b p T)
 
   old : entries q ≡ l ++ (x ∷ m)
-  old = ap inorder (sym tree-is) ∙ node-around a x r b p
+  old = entries-around q a x r b p tree-is
 
   now : inorder t ≡ l ++ m
   now = removed-around a x r b p (T .ranks)
