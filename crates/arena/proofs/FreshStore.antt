@@ -1,18 +1,14 @@
 -- What a laid out store holds, word by word; and that laying out refuses exactly what document 01 says.
 use Prim.Native.Nat.{ℕ, zero, suc, _+_, _-_, _<_, _≤_}
 use mathlib.Core.Path.{_≡_, refl, sym, _∙_, subst}
-use mathlib.Core.Bool.{Bool, true, false}
-use mathlib.Core.List.{List, [], _∷_}
+use mathlib.Core.List.{List}
 use native.Mathlib.Omega.{arith}
-use native.Mathlib.Decide.{decLt, ℕ-discrete}
+use native.Mathlib.Decide.{ℕ-discrete}
 use lib.Dec.{lit<}
 use lib.ListN.{length, getD}
-use Rattle.handle.specs.Numbers.{noSlot, firstGeneration}
-use Rattle.arena.specs.Words.{need, Room, headWords, fields, field, put, head, putHead, CAPACITY, TOP, HEIGHT, FIRST, LAST, ROOT}
-use Rattle.arena.specs.Agree.{Agree}
-use Rattle.arena.specs.Laying.{unlinked, blankOf, freshSlot, laySlots, zeroed, freshHead, laid, headerWords, slotWords, Fresh}
-use Rattle.arena.proofs.Laws.{lit≢, length-put, length-putHead, field-at, field-slot, field-off, head-put, rest-put, head-same, head-other, field-putHead, rest-putHead}
-use Rattle.arena.proofs.OneStore.{one-store}
+use Rattle.arena.specs.Words.{need, Room, headWords, fields, field, head, putHead}
+use Rattle.arena.specs.Laying.{unlinked, blankOf, freshSlot, laySlots, zeroed, slotWords}
+use Rattle.arena.proofs.Laws.{lit≢, length-put, length-putHead, field-at, field-slot, field-off, head-put, rest-put, head-same, head-other, rest-putHead}
 
 -- a statement about each field
 pub each-field : (P : ℕ → Type 0) → P 0 → P 1 → P 2 → P 3 → P 4 → P 5 → P 6 → P 7 → P 8 → P 9 → (f : ℕ) → f < fields → P f

@@ -1,11 +1,11 @@
 -- The laws of the stored form: it keeps order both ways, fits a word, and is undone, for every signed 64-bit number.
 use Prim.Native.Nat.{ℕ, suc, _+_, _-_, _^_, _≤_, _<_}
-use mathlib.Core.Path.{_≡_, refl, sym, _∙_, ap}
+use mathlib.Core.Path.{_≡_, ap}
 use native.Mathlib.Omega.{arith}
 use native.Mathlib.Decide.{decLt}
-use lib.Dec.{T, ltb, lt→ltb, ltb→lt}
+use lib.Dec.{lt→ltb, ltb→lt}
 use lib.IntN.{ℤ, pos, negsuc}
-use lib.Signed.{mag, _<ℤ_, ltZ-yes}
+use lib.Signed.{_<ℤ_, ltZ-yes}
 use borrow.Author.Tests.{lt-ltb, le-ltb}
 use mir.Syntax.{w64}
 use mir.Val.{SFits}

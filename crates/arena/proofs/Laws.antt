@@ -1,15 +1,15 @@
 -- The laws of the words: all that anything above knows of `field`, `put`, `head` and `putHead`.
 -- A write is seen in its own place and nowhere else, and keeps the length. No law shows where a field stands.
-use Prim.Native.Nat.{ℕ, _+_, _*_, _<_, _≤_}
-use mathlib.Core.Path.{_≡_, sym}
+use Prim.Native.Nat.{ℕ, _<_, _≤_}
+use mathlib.Core.Path.{_≡_}
 use mathlib.Core.List.{List}
 use mathlib.Core.Bool.{not}
 use native.Mathlib.Omega.{arith}
 use lib.Dec.{T, eqb, T-not, eqb-refl}
-use lib.ListN.{length, getD, set, length-set}
+use lib.ListN.{length, getD, length-set}
 use lib.Seq.{getD-set-same, getD-set-other}
 use Rattle.arena.specs.Words.{need, Room, headWords, fields, place, field, put, head, putHead}
-use Rattle.arena.proofs.Places.{Within, place-within, place-one}
+use Rattle.arena.proofs.Places.{place-within, place-one}
 
 pub length-put : (s : List ℕ) (cap i f v : ℕ) → length (put s cap i f v) ≡ length s
 unfolding put

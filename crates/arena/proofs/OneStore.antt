@@ -1,10 +1,10 @@
 -- Header, fields, length and the words past the needed ones: together they are the whole store.
 use Prim.Native.Nat.{ℕ, _+_, _-_, _*_, _/_, _%_, _<_, _≤_}
-use mathlib.Core.Path.{_≡_, sym, _∙_, ap}
+use mathlib.Core.Path.{_≡_, _∙_}
 use mathlib.Core.List.{List}
 use native.Mathlib.Omega.{arith}
 use native.Mathlib.Decide.{decLt}
-use lib.ListN.{length, getD}
+use lib.ListN.{getD}
 use lib.Seq.{ext-getD}
 use Rattle.arena.specs.Words.{need, headWords, fields, place, field, head}
 use Rattle.arena.specs.Agree.{Agree}

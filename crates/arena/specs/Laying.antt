@@ -1,7 +1,7 @@
 -- Laying out, as a function of the store: the answer and every word afterwards, for every input.
 -- Document 01: "capacity 1 to 1,024 slots", "the top generation, 1 to 4,294,967,295, is set at laying out. Each slot starts at
 -- generation 1", "a fresh store gives 0, 1, 2 and so on", and number 4. `Fresh` is the same for a reader: what each word holds.
-use Prim.Native.Nat.{ℕ, zero, suc, _+_, _-_, _≤_, _<_}
+use Prim.Native.Nat.{ℕ, zero, suc, _-_, _≤_, _<_}
 use mathlib.Core.Bool.{Bool, true, false}
 use mathlib.Core.Path.{_≡_}
 use mathlib.Core.List.{List, [], _∷_}

@@ -1,7 +1,7 @@
 // Entries: whether a handle names a live one, and an entry's key and value.
 // From the Rust: the look-ups of arena/impl_arena_trait.rs.
 ghost use mathlib.Core.Path.{_≡_};
-ghost use Prim.Native.Nat.{_<_, _≤_};
+ghost use Prim.Native.Nat.{_<_};
 ghost use Rattle.arena.specs.Words.{Room};
 ghost use Rattle.arena.specs.Entries.{isLive, entryOf, entryPut};
 use crate::keys;

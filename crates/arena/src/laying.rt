@@ -1,9 +1,8 @@
 // Laying out: a lent store becomes an empty queue, whatever it held, or is refused and stays as it was.
 // From the Rust: the making of a new arena, with the capacity and the top generation fixed at once.
 ghost use mathlib.Core.Path.{_≡_};
-ghost use Prim.Native.Nat.{_<_, _≤_};
-ghost use lib.ListN.{length};
-ghost use Rattle.arena.specs.Words.{Room, limit};
+ghost use Prim.Native.Nat.{_<_};
+ghost use Rattle.arena.specs.Words.{Room};
 ghost use Rattle.arena.specs.Laying.{unlinked, blankOf, freshSlot, laySlots, zeroed, freshHead, goodLayout, layOut};
 use crate::header::LIMIT;
 use crate::words;

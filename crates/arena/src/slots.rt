@@ -1,7 +1,7 @@
 // Slots: taking the one freed last, and freeing one. A free slot stands in a stack and knows its place there.
 // From the Rust: the free list of arena/base_arena.rs, with a generation for each slot.
 ghost use mathlib.Core.Path.{_≡_};
-ghost use Prim.Native.Nat.{_<_, _≤_};
+ghost use Prim.Native.Nat.{_<_};
 ghost use Rattle.arena.specs.Words.{Room};
 ghost use Rattle.arena.specs.Slots.{FoundIn, peekSlot, popped, takeSlot, TakenIn, pushed, freeSlot};
 use crate::laying;

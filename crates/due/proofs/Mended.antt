@@ -1,11 +1,11 @@
 -- Division toward zero, mended toward the floor: what `floored` computes from `/` and `%` is the floor and the remainder
 -- of the crate `rules`. Assumes nothing.
 use mathlib.Core.Path.{_≡_, refl, sym, ap, _∙_}
-use mathlib.Core.Bool.{Bool, true, false}
-use Prim.Native.Nat.{ℕ, zero, suc, _+_, _*_, _/_, _%_, _≤_, _<_, _^_}
+use mathlib.Core.Bool.{true, false}
+use Prim.Native.Nat.{ℕ, suc, _+_, _*_, _/_, _%_, _≤_, _<_, _^_}
 use native.Mathlib.Nat.{div-add-mod', mod-lt, mod-le, div-le-self, zero-div, zero-mod, mul-le-mul-left}
 use native.Mathlib.Omega.{arith}
-use lib.IntN.{ℤ, pos, negsuc, negℤ, _+ℤ_, _-ℤ_, _*ℤ_}
+use lib.IntN.{ℤ, pos, negsuc, _+ℤ_, _-ℤ_}
 use lib.Signed.{ltZ, quotZ, remZ}
 use mir.Syntax.{w32, w64}
 use mir.Val.{Fits, SFits}

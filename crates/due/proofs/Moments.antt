@@ -1,6 +1,6 @@
 -- A moment of a time in its ranges is worked out with no overflow, and so is the local time of a moment whose day is in
 -- range. Assumes nothing.
-use Prim.Native.Nat.{ℕ, _+_, _*_, _≤_, _<_, _^_}
+use Prim.Native.Nat.{_+_, _*_, _≤_}
 use native.Mathlib.Omega.{arith}
 use lib.IntN.{ℤ, pos, _+ℤ_, _-ℤ_, _*ℤ_}
 use lib.Dec.{T}

@@ -1,7 +1,8 @@
 -- A subtree replaced at any depth by another with the same entries: the whole tree's words, and that nothing else was written.
--- A reader may rely on: steps of a climb follow one another by regrown-trans; `reshaped` then carries all other groups over.
+-- A reader may rely on: steps of a climb follow one another by came-on; `reshaped` then carries all other groups over.
 use Prim.Native.Nat.{ℕ, _≤_, _<_}
 use mathlib.Core.Path.{_≡_, refl}
+use mathlib.Core.Bool.{Bool, true}
 use mathlib.Core.Logic.{inl}
 use mathlib.Core.List.{List, [], _∷_}
 use native.Mathlib.Omega.{arith}
@@ -31,8 +32,18 @@ pub record Regrown (s t : List ℕ) (cap : ℕ) (l : List ℕ) (x : Tree) : Type
   pub words : TreeWords t cap x
   pub only : Only s t cap (LinkOf l) IsRoot
 
-pub regrown-trans : (s t u : List ℕ) (cap : ℕ) (l : List ℕ) (x y : Tree) → Regrown s t cap l x → Regrown t u cap l y → Regrown s u cap l y
-regrown-trans s t u cap l x y a b = record { words = b .words; only = only-trans cap (LinkOf l) IsRoot s t u (a .only) (b .only) }
+-- what a climb came to: its answer is yes, and its store is s regrown
+pub record Came (s : List ℕ) (cap : ℕ) (l : List ℕ) (x : Tree) (r : List ℕ × Bool) : Type 0 where
+  pub yes : r .1 ≡ true
+  pub words : TreeWords (r .0) cap x
+  pub only : Only s (r .0) cap (LinkOf l) IsRoot
+
+-- at once, and after a first step
+pub came : {s t : List ℕ} {cap : ℕ} {l : List ℕ} {x : Tree} → Regrown s t cap l x → Came s cap l x (t, true)
+came a = record { yes = refl; words = a .words; only = a .only }
+
+pub came-on : {s t : List ℕ} {cap : ℕ} {l : List ℕ} {x y : Tree} {r : List ℕ × Bool} → Regrown s t cap l x → Came t cap l y r → Came s cap l y r
+came-on {s} {t} {cap} {l} a b = record { yes = b .yes; words = b .words; only = only-trans cap (LinkOf l) IsRoot s t _ (a .only) (b .only) }
 
 -- no header word
 abbrev pub NoHead : ℕ → Type 0

@@ -1,6 +1,6 @@
 // Document 01's listing: `live L free F retired R`, then a line for each entry in order. The cursor walks the chain; ranks are
 // the store's words. It is written into a buffer, or at once on standard output.
-ghost use Prim.Native.Nat.{_<_, _≤_};
+ghost use Prim.Native.Nat.{_<_};
 ghost use Rattle.arena.specs.Words.{Room};
 use arena::header;
 use arena::header::Header;

@@ -28,14 +28,9 @@ use Rattle.holds.proofs.Ways.{top-node, unplugged, distinct-in}
 use Rattle.holds.proofs.Writes.{only-none}
 use Rattle.holds.proofs.Trees.{LinkOf}
 use Rattle.holds.proofs.Reshaped.{IsRoot}
-use Rattle.holds.proofs.AnyDepth.{Regrown, regrown-trans}
+use Rattle.holds.proofs.AnyDepth.{Regrown, Came, came, came-on}
 use Rattle.placed.proofs.Restructured.{Stands, stands-on, ranked-at, restructured}
 use Rattle.placed.proofs.Turns.{side-at, turn-stops, turn-raises, turn-turns}
-
--- a result of the climb: the words hold the tree, and the budget was not met
-pub record Climbed (s : List ℕ) (cap : ℕ) (l : List ℕ) (x : Tree) (r : List ℕ × Bool) : Type 0 where
-  pub regrown : Regrown s (r .0) cap l x
-  pub sound : r .1 ≡ true
 
 -- a climb ends, or goes on
 module _ (fuel : ℕ) (s : List ℕ) (cap p0 p1 p2 d01 d12 : ℕ) (t : List ℕ) where
@@ -68,15 +63,15 @@ module _ (cap : ℕ) (l : List ℕ) (few : cap ≤ noSlot) (fuel : ℕ) (s : Lis
   abbrev up : List ℕ
   up = put s cap (e2 .slot) RANK (r1 + 1)
 
-  stopped : r1 < r2 → Climbed s cap l goal run
+  stopped : r1 < r2 → Came s cap l goal run
   stopped x =
       let q = climb-ends fuel s cap (topSlot n0) (e1 .slot) (e2 .slot) (number d) (number e) s (turn-stops s cap few d e n0 e1 r1 s0 e2 r2 s1 p (T .words) x) in
-      rw (q, insert-stop n0 d e1 r1 s0 e e2 r2 s1 p x) (record { regrown = record { words = T .words; only = only-none cap (LinkOf l) IsRoot s }; sound = refl })
+      rw (q, insert-stop n0 d e1 r1 s0 e e2 r2 s1 p x) (came (record { words = T .words; only = only-none cap (LinkOf l) IsRoot s }))
 
-  turned : ¬ (r1 < r2) → ¬ (rank s1 + 1 ≡ r2) → r1 < budget → rank s1 < budget → Climbed s cap l goal run
+  turned : ¬ (r1 < r2) → ¬ (rank s1 + 1 ≡ r2) → r1 < budget → rank s1 < budget → Came s cap l goal run
   turned x y b c =
       let q = climb-ends fuel s cap (topSlot n0) (e1 .slot) (e2 .slot) (number d) (number e) _ (turn-turns s cap few d e n0 e1 r1 s0 e2 r2 s1 p (T .words) (omega arith) b c y) in
-      rw (q, insert-turn n0 d e1 r1 s0 e e2 r2 s1 p x y) (record { regrown = restructured s cap l few room d e n0 e1 r1 s0 e2 r2 s1 p f T; sound = refl })
+      rw (q, insert-turn n0 d e1 r1 s0 e e2 r2 s1 p x y) (came (restructured s cap l few room d e n0 e1 r1 s0 e2 r2 s1 p f T))
 
   -- n2 has its new rank, and is what the next turn starts from
   pub lifts : Regrown s up cap l (plug (node e n1 e2 (r1 + 1) s1) p)
@@ -90,29 +85,29 @@ module _ (cap : ℕ) (l : List ℕ) (few : cap ≤ noSlot) (fuel : ℕ) (s : Lis
     raise = turn-raises s cap few d e n0 e1 r1 s0 e2 r2 s1 p (T .words) (omega arith) b (omega arith) y
 
     -- no n3: the climb ends
-    raised-top : cap ≤ parent p → plug (node e n1 e2 (r1 + 1) s1) p ≡ insertClimb n1 e e2 (r1 + 1) s1 p → Climbed s cap l goal run
+    raised-top : cap ≤ parent p → plug (node e n1 e2 (r1 + 1) s1) p ≡ insertClimb n1 e e2 (r1 + 1) s1 p → Came s cap l goal run
     raised-top none same =
         let z = climb-ends fuel s cap (topSlot n0) (e1 .slot) (e2 .slot) (number d) (number e) up (raise-done s cap (e2 .slot) (parent p) r1 up refl none ∙ raise) in
-        rw (z, insert-raise n0 d e1 r1 s0 e e2 r2 s1 p x y, ← q, ← same) (record { regrown = lifts; sound = refl })
+        rw (z, insert-raise n0 d e1 r1 s0 e e2 r2 s1 p x y, ← q, ← same) (came lifts)
 
     raised-on : parent p < cap → (d3 : ℕ) → d3 ≡ sideOf up cap (parent p) (e2 .slot)
-        → Climbed up cap l (insertClimb n1 e e2 (r1 + 1) s1 p) (climbFrom fuel up cap (e1 .slot) (e2 .slot) (parent p) (number e) d3) → Climbed s cap l goal run
+        → Came up cap l (insertClimb n1 e e2 (r1 + 1) s1 p) (climbFrom fuel up cap (e1 .slot) (e2 .slot) (parent p) (number e) d3) → Came s cap l goal run
     raised-on low d3 side c =
         let z = climb-goes fuel s cap (topSlot n0) (e1 .slot) (e2 .slot) (number d) (number e) up (parent p) d3 (raise-up s cap (e2 .slot) (parent p) r1 up refl low d3 side ∙ raise) in
         rw (z, insert-raise n0 d e1 r1 s0 e e2 r2 s1 p x y, ← q)
-        (record { regrown = regrown-trans s up _ cap l (plug (node e n1 e2 (r1 + 1) s1) p) _ lifts (c .regrown); sound = c .sound })
+        (came-on lifts c)
 
 module _ (cap : ℕ) (l : List ℕ) (few : cap ≤ noSlot) where
   pub climbs : (fuel : ℕ) (s : List ℕ) (n0 : Tree) (d : Side) (e1 : Entry) (r1 : ℕ) (s0 : Tree) (e : Side) (e2 : Entry) (r2 : ℕ) (s1 : Tree) (p : Way)
       → IsFork n0 → Room s cap → Stands s cap l (plug (node e (node d n0 e1 r1 s0) e2 r2 s1) p) → r1 ≡ suc (rank n0) → WayRanks (rank n0) (step e e2 r2 s1 ∷ p)
       → rank n0 + length p < 32 → length p < fuel
-      → Climbed s cap l (insertClimb n0 d e1 r1 s0 (step e e2 r2 s1 ∷ p)) (climbFrom fuel s cap (topSlot n0) (e1 .slot) (e2 .slot) (number d) (number e))
+      → Came s cap l (insertClimb n0 d e1 r1 s0 (step e e2 r2 s1 ∷ p)) (climbFrom fuel s cap (topSlot n0) (e1 .slot) (e2 .slot) (number d) (number e))
   unfolding plug insertClimb
   climbs zero s n0 d e1 r1 s0 e e2 r2 s1 p f room T u w b h = absurd (omega arith)
   climbs (suc fuel) s n0 d e1 r1 s0 e e2 r2 s1 [] f room T u w b h = go (decLt r1 r2) (ℕ-discrete (rank s1 + 1) r2)
     where
       go : Dec (r1 < r2) → Dec (rank s1 + 1 ≡ r2)
-          → Climbed s cap l (insertClimb n0 d e1 r1 s0 (step e e2 r2 s1 ∷ [])) (climbFrom (suc fuel) s cap (topSlot n0) (e1 .slot) (e2 .slot) (number d) (number e))
+          → Came s cap l (insertClimb n0 d e1 r1 s0 (step e e2 r2 s1 ∷ [])) (climbFrom (suc fuel) s cap (topSlot n0) (e1 .slot) (e2 .slot) (number d) (number e))
       go (yes x) y = stopped cap l few fuel s n0 d e1 r1 s0 e e2 r2 s1 [] f room T x
       go (no x) (no y) = turned cap l few fuel s n0 d e1 r1 s0 e e2 r2 s1 [] f room T x y (omega arith) (omega arith)
       go (no x) (yes y) = raised-top cap l few fuel s n0 d e1 r1 s0 e e2 r2 s1 [] f room T x y (omega arith) (omega arith) few refl
@@ -125,8 +120,8 @@ module _ (cap : ℕ) (l : List ℕ) (few : cap ≤ noSlot) where
       go : Dec (r1 < r2) → Dec (rank s1 + 1 ≡ r2)
           → (Room t cap → Stands t cap l (plug (node c (node e (node d n0 e1 r1 s0) e2 (r1 + 1) s1) e3 r3 s2) p) → r1 + 1 ≡ suc r1 → WayRanks r1 (step c e3 r3 s2 ∷ p)
           → r1 + length p < 32 → length p < fuel
-          → Climbed t cap l (insertClimb (node d n0 e1 r1 s0) e e2 (r1 + 1) s1 (step c e3 r3 s2 ∷ p)) (climbFrom fuel t cap (topSlot (node d n0 e1 r1 s0)) (e2 .slot) (e3 .slot) (number e) (number c)))
-          → Climbed s cap l (insertClimb n0 d e1 r1 s0 (step e e2 r2 s1 ∷ (step c e3 r3 s2 ∷ p))) (climbFrom (suc fuel) s cap (topSlot n0) (e1 .slot) (e2 .slot) (number d) (number e))
+          → Came t cap l (insertClimb (node d n0 e1 r1 s0) e e2 (r1 + 1) s1 (step c e3 r3 s2 ∷ p)) (climbFrom fuel t cap (topSlot (node d n0 e1 r1 s0)) (e2 .slot) (e3 .slot) (number e) (number c)))
+          → Came s cap l (insertClimb n0 d e1 r1 s0 (step e e2 r2 s1 ∷ (step c e3 r3 s2 ∷ p))) (climbFrom (suc fuel) s cap (topSlot n0) (e1 .slot) (e2 .slot) (number d) (number e))
       go (yes x) y rest = stopped cap l few fuel s n0 d e1 r1 s0 e e2 r2 s1 (step c e3 r3 s2 ∷ p) f room T x
       go (no x) (no y) rest = turned cap l few fuel s n0 d e1 r1 s0 e e2 r2 s1 (step c e3 r3 s2 ∷ p) f room T x y (omega arith) (omega arith)
       go (no x) (yes y) rest =

@@ -26,20 +26,20 @@ use Rattle.holds.proofs.Trees.{LinkOf, opened}
 use Rattle.holds.proofs.Ways.{top-node, unplugged, distinct-in}
 use Rattle.holds.proofs.Writes.{only-none}
 use Rattle.holds.proofs.Reshaped.{IsRoot}
-use Rattle.holds.proofs.AnyDepth.{regrown-trans}
+use Rattle.holds.proofs.AnyDepth.{Came, came, came-on}
 use Rattle.placed.proofs.Restructured.{Stands, stands-on, ranked-at}
 use Rattle.placed.proofs.Turns.{side-at}
-use Rattle.placed.proofs.Climbing.{Climbed, way-rises, climbs}
+use Rattle.placed.proofs.Climbing.{way-rises, climbs}
 
 module _ (cap : ℕ) (l : List ℕ) (few : cap ≤ noSlot) where
   -- n1 has the rank 2 now: the climb above it
   climb-above : (s : List ℕ) (e : Entry) (d : Side) (e1 : Entry) (s0 : Tree) (p : Way) → Room s cap → Stands s cap l (plug (node d (leaf e) e1 2 s0) p)
-      → WayRanks 1 p → length p ≤ 31 → Climbed s cap l (insertClimb (leaf e) d e1 2 s0 p) (climbedAbove s cap (e .slot) (e1 .slot))
+      → WayRanks 1 p → length p ≤ 31 → Came s cap l (insertClimb (leaf e) d e1 2 s0 p) (climbedAbove s cap (e .slot) (e1 .slot))
   unfolding plug
   climb-above s e d e1 s0 [] room T w b =
       let x = opened s cap d noSlot (leaf e) e1 2 s0 (T .words .links) in
       rw (← top-reached s cap (e .slot) (e1 .slot) noSlot (sym (x .0 .back-is)) few, insert-root (leaf e) d e1 2 s0)
-      (record { regrown = record { words = T .words; only = only-none cap (LinkOf l) IsRoot s }; sound = refl })
+      (came (record { words = T .words; only = only-none cap (LinkOf l) IsRoot s }))
   climb-above s e d e1 s0 (step c e2 r2 s1 ∷ p) room T w b =
       let n1 = node d (leaf e) e1 2 s0 in
       let n2 = node c n1 e2 r2 s1 in
@@ -55,15 +55,15 @@ module _ (cap : ℕ) (l : List ℕ) (few : cap ≤ noSlot) where
 
   pub rebalances : (s : List ℕ) (e : Entry) (d : Side) (e1 : Entry) (r1 : ℕ) (s0 : Tree) (p : Way) → Room s cap → Stands s cap l (plug (node d (leaf e) e1 r1 s0) p)
       → Ranks (plug tip (step d e1 r1 s0 ∷ p)) → size (plug tip (step d e1 r1 s0 ∷ p)) ≤ noSlot
-      → Climbed s cap l (insertAt e (step d e1 r1 s0 ∷ p)) (rebalanced s cap (e .slot) (e1 .slot))
+      → Came s cap l (insertAt e (step d e1 r1 s0 ∷ p)) (rebalanced s cap (e .slot) (e1 .slot))
   rebalances s e d e1 r1 s0 p room T k z =
       let P = unplugged s cap p (node d (leaf e) e1 r1 s0) (T .words) in
       by (ℕ-discrete r1 2) (sym (opened s cap d (parent p) (leaf e) e1 r1 s0 (P .below) .0 .rank-is))
     where
-      by : Dec (r1 ≡ 2) → r1 ≡ field s cap (e1 .slot) RANK → Climbed s cap l (insertAt e (step d e1 r1 s0 ∷ p)) (rebalanced s cap (e .slot) (e1 .slot))
+      by : Dec (r1 ≡ 2) → r1 ≡ field s cap (e1 .slot) RANK → Came s cap l (insertAt e (step d e1 r1 s0 ∷ p)) (rebalanced s cap (e .slot) (e1 .slot))
       by (yes x) r =
           rw (← rank-fits s cap (e .slot) (e1 .slot) r1 r x, insert-first-stop e d e1 r1 s0 p x)
-          (record { regrown = record { words = T .words; only = only-none cap (LinkOf l) IsRoot s }; sound = refl })
+          (came (record { words = T .words; only = only-none cap (LinkOf l) IsRoot s }))
       by (no x) r =
           let t = put s cap (e1 .slot) RANK 2 in
           let w = unplug-ranks (step d e1 r1 s0 ∷ p) tip k .1 in
@@ -75,4 +75,4 @@ module _ (cap : ℕ) (l : List ℕ) (few : cap ≤ noSlot) where
           let T′ = stands-on (plug-same p (node d (leaf e) e1 2 s0) (node d (leaf e) e1 r1 s0) (node-same d e1 2 r1 (leaf e) (leaf e) s0 s0 refl refl)) T g in
           let c = climb-above t e d e1 s0 p (rw (length-put s cap (e1 .slot) RANK 2) room) T′ w₁ (omega arith) in
           rw (← rank-raised s cap (e .slot) (e1 .slot) r1 r x t refl _ refl, insert-first-up e d e1 r1 s0 p x)
-          (record { regrown = regrown-trans s t _ cap l (plug (node d (leaf e) e1 2 s0) p) _ g (c .regrown); sound = c .sound })
+          (came-on g c)

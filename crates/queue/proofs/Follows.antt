@@ -1,10 +1,10 @@
 -- What follows from the promises on a sound store: refusals come exactly when document 01's table says and change nothing, a sound
 -- store stays sound, and a search's count is the length of the stored path, within its bound.
 use Prim.Native.Nat.{ℕ, _+_, _*_, _^_, _≤_}
-use mathlib.Core.Path.{_≡_, refl, sym, _∙_, ap, subst, subst⁻¹}
+use mathlib.Core.Path.{_≡_, sym, _∙_, ap, subst}
 use mathlib.Core.Logic.{_⊎_, _↔_}
 use mathlib.Core.List.{List}
-use mathlib.Core.Option.{Option, some}
+use mathlib.Core.Option.{some}
 use lib.IntN.{ℤ}
 use lib.ListN.{length}
 use Rattle.handle.specs.declared.Handle as H
@@ -16,10 +16,8 @@ use Rattle.remove.specs.declared.reading.Reading as R
 use Rattle.wavl.specs.Search.{path}
 use Rattle.wavl.specs.Tree.{left, right}
 use Rattle.rules.specs.Queue.{Queue, Live, Has, entries}
-use Rattle.rules.specs.Answers.{Inserted, notInserted, Removed, notRemoved, Read, notRead, Stepped, notStepped, Found, notWithinCapacity, failedOrdRequirement, invalidPtr}
-use Rattle.rules.specs.Insert.{insertNormal, insertEmpty, insertManual}
-use Rattle.rules.specs.Remove.{remove}
-use Rattle.rules.specs.Look.{read, searchFor, stepTo}
+use Rattle.rules.specs.Answers.{Inserted, notInserted, Removed, notRemoved, notRead, notStepped, Found, notWithinCapacity, failedOrdRequirement, invalidPtr}
+use Rattle.rules.specs.Look.{searchFor}
 use Rattle.rules.specs.Table.{NoSlot, NoEntries, ManualFits, Adding, countOf}
 use Rattle.rules.proofs.Refusals.{normal-refused-1, normal-refused-only, empty-refused-1, empty-refused-2, empty-refused-only, manual-refused-1, manual-refused-2, manual-refused-only, remove-refused-3, remove-refused-only, read-refused-3, step-refused-3}
 use Rattle.rules.proofs.Unchanged.{normal-unchanged, empty-unchanged, manual-unchanged, remove-unchanged}
@@ -30,7 +28,7 @@ use Rattle.holds.proofs.Parts.{sound-of}
 use Rattle.holds.proofs.SameStore.{same-store}
 use Rattle.placed.specs.Meaning.{insertedMeans, sideMeans}
 use Rattle.taken.specs.Meaning.{removedMeans, readMeans}
-use Rattle.queue.specs.Promises.{Writes, Looks}
+use Rattle.queue.specs.Promises.{Writes}
 use Rattle.queue.specs.Readings.{searchMeans, movedMeans}
 use Rattle.queue.specs.Promised.{InsertPromise, EmptyPromise, ManualPromise, RemovePromise, ReadPromise, SearchPromise, BackPromise, ForwardPromise}
 use Rattle.queue.specs.declared.looking.Searched.{Searched}

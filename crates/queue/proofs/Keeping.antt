@@ -1,7 +1,7 @@
 -- From the inner models to the public promises: a call that tests the header first, keeps what lies past the needed words, and does
 -- what document 01 says on a store that holds a queue.
 use Prim.Native.Nat.{ℕ, _≤_}
-use mathlib.Core.Path.{_≡_, refl, sym, _∙_, ap, subst⁻¹}
+use mathlib.Core.Path.{_≡_, refl, _∙_, ap, subst⁻¹}
 use mathlib.Core.List.{List}
 use lib.ListN.{length, getD}
 use Rattle.arena.specs.Words.{need}

@@ -1,10 +1,9 @@
 -- Search, reading and the cursor on a store that holds a queue: their models' answers are document 01's.
 use Prim.Native.Nat.{ℕ}
-use mathlib.Core.Path.{_≡_, refl, sym, _∙_, ap}
-use mathlib.Core.Bool.{Bool, true, false}
+use mathlib.Core.Path.{_≡_, refl, _∙_, ap}
+use mathlib.Core.Bool.{true}
 use mathlib.Core.List.{List}
-use mathlib.Core.Option.{Option, none, some}
-use native.Mathlib.Omega.{arith}
+use mathlib.Core.Option.{some}
 use lib.IntN.{ℤ}
 use Rattle.handle.specs.declared.Handle as H
 use Rattle.handle.specs.declared.Refusal.the-variants as R
@@ -12,15 +11,13 @@ use Rattle.arena.specs.Branch.{ifte}
 use Rattle.arena.specs.Header.{headerOf}
 use Rattle.arena.specs.Keys.{stored}
 use Rattle.arena.specs.Entries.{isLive}
-use Rattle.arena.specs.declared.header.Header.the-variants.{Passes}
 use Rattle.arena.proofs.Theorems.{passes}
-use Rattle.find.specs.Seeking.{seekModel}
 use Rattle.chain.specs.Steps.{stepFrom, endOf}
 use Rattle.chain.specs.declared.Stepped as C
 use Rattle.wavl.specs.Tree.{Side, left, right}
 use Rattle.wavl.specs.Search.{equalTo, nearest, emptyTree, answer, search}
 use Rattle.wavl.specs.Search as Search
-use Rattle.rules.specs.Queue.{Queue, Live}
+use Rattle.rules.specs.Queue.{Queue}
 use Rattle.rules.specs.Place.{Spot, nowhere, spot, spotOf}
 use Rattle.rules.specs.Answers.{Found, Stepped}
 use Rattle.rules.specs.Look.{searchFor, first, last, stepSpot, stepTo}
@@ -32,7 +29,7 @@ use Rattle.holds.proofs.Seeks.{seek-is, seek-means}
 use Rattle.holds.proofs.Chains.{first-means, last-means, step-means}
 use Rattle.holds.proofs.Live.{live-is, live-iff}
 use Rattle.queue.specs.Header.{onHeader}
-use Rattle.queue.specs.Looking.{handleAt, sideFor, asSearched, searched, searchCall}
+use Rattle.queue.specs.Looking.{handleAt, asSearched, searched, searchCall}
 use Rattle.queue.specs.Moving.{movedTo, cursorAt, startCall, standIn, standCall, stepIn, stepCall}
 use Rattle.queue.specs.Readings.{searchMeans, movedMeans, standsBy, standAt}
 use Rattle.queue.specs.declared.cursor.Moved.the-variants as M

@@ -1,14 +1,12 @@
 -- The public promises, call by call, from the equality with the model.
 use Prim.Native.Nat.{ℕ}
-use mathlib.Core.Path.{_≡_, refl, sym, _∙_, ap, subst⁻¹}
+use mathlib.Core.Path.{_≡_, _∙_, ap, subst⁻¹}
 use mathlib.Core.List.{List}
-use mathlib.Core.Option.{some}
 use lib.IntN.{ℤ}
-use lib.ListN.{length}
 use Rattle.handle.specs.declared.Handle.{Handle}
 use Rattle.handle.specs.declared.Side.{Side}
 use Rattle.arena.specs.Keys.{stored}
-use Rattle.arena.specs.Laying.{Good, Fresh, laid, layOut}
+use Rattle.arena.specs.Laying.{Fresh, laid, layOut}
 use Rattle.arena.specs.declared.laying.LaidOut.{LaidOut}
 use Rattle.arena.specs.declared.laying.LaidOut.the-variants as L
 use Rattle.arena.proofs.Theorems.{laid-is, lays-out, refuses}
@@ -23,8 +21,6 @@ use Rattle.remove.specs.Remove.{removeBy, readBy}
 use Rattle.remove.specs.declared.removing.Removed.{Removed}
 use Rattle.remove.specs.declared.reading.Reading.{Reading}
 use Rattle.remove.proofs.Laws.{remove-kept}
-use Rattle.rules.specs.Queue.{Queue, fresh}
-use Rattle.holds.specs.Holds.{Holds}
 use Rattle.holds.proofs.FreshQueue.{fresh-holds}
 use Rattle.placed.proofs.Theorems.{normal-means, normal-ahead, empty-means, empty-ahead, manual-means, manual-ahead}
 use Rattle.taken.proofs.Means.{remove-means, read-means}

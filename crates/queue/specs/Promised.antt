@@ -1,5 +1,5 @@
 -- The promise of each public call, by name: its model, its reading in document 01's terms, and document 01's rule (crate `rules`).
-use Prim.Native.Nat.{ℕ, _≤_}
+use Prim.Native.Nat.{ℕ}
 use mathlib.Core.Path.{_≡_}
 use mathlib.Core.List.{List}
 use mathlib.Core.Option.{some}

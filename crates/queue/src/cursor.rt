@@ -1,7 +1,7 @@
 // The chain cursor: a value that stands at an entry, and whose methods hand it back moved, or say End.
 // From the Rust: advancing along the links of chain/impl_chain_arena_trait.rs.
 ghost use mathlib.Core.Path.{_≡_};
-ghost use Prim.Native.Nat.{_<_, _≤_};
+ghost use Prim.Native.Nat.{_≤_};
 ghost use Rattle.arena.specs.Words.{Room};
 ghost use Rattle.queue.specs.Promised.{FirstPromise, LastPromise, AtPromise, BackPromise, ForwardPromise};
 ghost use Rattle.queue.specs.Moving.{movedTo, startCall, stepIn, stepCall};

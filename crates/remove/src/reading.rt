@@ -1,7 +1,6 @@
 // Reading by handle: key and value of a live entry. No store is changed.
 // From the Rust: get of ord/simple_ord_arena.rs.
 ghost use mathlib.Core.Path.{_≡_};
-ghost use Prim.Native.Nat.{_≤_};
 ghost use Rattle.arena.specs.Words.{Room};
 ghost use Rattle.remove.specs.Remove.{readBy};
 use arena::entries;

@@ -2,7 +2,7 @@
 // A refusal for a dead handle changes nothing; NotSound is answered on no sound store.
 // From the Rust: remove of ord/simple_ord_arena.rs over internal_remove of ord/remove.rs.
 ghost use mathlib.Core.Path.{_≡_};
-ghost use Prim.Native.Nat.{_<_, _≤_};
+ghost use Prim.Native.Nat.{_<_};
 ghost use Rattle.arena.specs.Words.{Room};
 ghost use Rattle.remove.specs.Remove.{letGo, removeLive, removeBy};
 use crate::taking;

@@ -1,14 +1,13 @@
 -- What a field that was found tells, and what is made of its bytes.
 use Prim.Native.Nat.{ℕ, _-_, _<_, _≤_}
-use mathlib.Core.Path.{_≡_, refl}
+use mathlib.Core.Path.{_≡_}
 use mathlib.Core.List.{List}
 use native.Mathlib.Omega.{arith}
-use native.Mathlib.Nat.{le-of-lt}
-use lib.ListN.{length, take, drop}
+use lib.ListN.{length}
 use Rattle.handle.specs.declared.Key.{Key}
 use Rattle.handle.specs.declared.Side.{Side}
 use Rattle.script.specs.Numbers.{unsignedOf, signedOf, sideOf}
-use Rattle.script.specs.Fields.{nextField, InLine, part, numberIn, numberTo, numberField, keyIn, keyTo, keyField, sideOfField, sideTo, sideField}
+use Rattle.script.specs.Fields.{nextField, InLine, part, numberField, keyField, sideField}
 use Rattle.script.specs.declared.fields.Field.{Field}
 use Rattle.script.specs.declared.fields.Field.the-variants.{At, Nothing}
 use Rattle.script.specs.declared.fields.Number.{Number}

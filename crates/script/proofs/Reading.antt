@@ -1,14 +1,12 @@
 -- Steps of the loop that reads a number.
-use Prim.Native.Nat.{ℕ, suc, _+_, _-_, _*_, _<_, _≤_}
-use mathlib.Core.Path.{_≡_, refl}
-use mathlib.Core.List.{List, [], _∷_}
+use Prim.Native.Nat.{ℕ, _+_, _-_, _*_, _<_, _≤_}
+use mathlib.Core.Path.{_≡_}
+use mathlib.Core.List.{List}
 use native.Mathlib.Numerals.{add-one}
 use native.Mathlib.Omega.{arith}
 use lib.ListN.{length, getD, drop, drop-of-length-le}
 use lib.Seq.{drop-cons}
-use lib.Dec.{ltb}
 use borrow.Author.Tests.{lt-ltb, le-ltb}
-use Rattle.arena.specs.Branch.{ifte}
 use Rattle.script.specs.declared.fields.Number.{Number}
 use Rattle.script.specs.declared.fields.Number.the-variants.{Is, Bad}
 use Rattle.script.specs.Numbers.{digitOf, readOn}

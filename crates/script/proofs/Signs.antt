@@ -1,25 +1,21 @@
 -- From a number and its sign to a key, which keys::signed_key makes of its stored form.
-use Prim.Native.Nat.{ℕ, zero, suc, _+_, _-_, _*_, _<_, _≤_, _^_}
+use Prim.Native.Nat.{ℕ, zero, suc, _+_, _-_, _<_, _≤_}
 use mathlib.Core.Path.{_≡_, refl}
-use mathlib.Core.Bool.{Bool, true, false}
 use mathlib.Core.List.{List}
 use native.Mathlib.Omega.{arith}
-use lib.Dec.{ltb, eqb}
 use lib.ListN.{length, getD, take, drop, length-drop}
 use lib.Seq.{take-all}
-use lib.IntN.{ℤ, pos, negsuc}
+use lib.IntN.{pos}
 use borrow.Author.Tests.{lt-ltb, le-ltb, eq-eqb, ne-eqb}
-use Rattle.arena.specs.Branch.{ifte}
 use Rattle.arena.specs.Keys.{signed, stored}
 use Rattle.handle.specs.declared.Key.{Key}
 use Rattle.script.specs.declared.fields.Number.{Number}
 use Rattle.script.specs.declared.fields.Number as N
 use Rattle.script.specs.declared.fields.SignedNumber.{SignedNumber}
 use Rattle.script.specs.declared.fields.SignedNumber as S
-use Rattle.script.specs.Numbers.{unsignedOf, belowOf, aboveOf, negative, keyOf, signedOf, sideIn, sideAt, sideOf}
+use Rattle.script.specs.Numbers.{unsignedOf, belowOf, aboveOf, negative, signedOf, sideAt, sideOf}
 use Rattle.script.specs.declared.fields.SideNumber.{SideNumber}
 use Rattle.script.specs.declared.fields.SideNumber as D
-use Rattle.handle.specs.declared.Side.the-variants.{Less, Equal, Greater}
 
 signed-above : (v : ℕ) → signed (9223372036854775808 + v) ≡ pos v
 unfolding signed

@@ -1,6 +1,6 @@
 // A script's `dump`: the entries in order, walked by the cursor, with ranks and links as the store has them.
 // `t` is the table of insertions' numbers, by which entries are named. It is many lines, written as they are found.
-ghost use Prim.Native.Nat.{_<_, _≤_};
+ghost use Prim.Native.Nat.{_<_};
 ghost use Rattle.arena.specs.Words.{Room};
 use arena::header;
 use arena::header::Header;

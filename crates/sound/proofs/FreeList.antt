@@ -1,7 +1,7 @@
 -- The free list that the stack of the words holds, of any height: its words, its slots below the capacity and apart.
 -- A reader may rely on: a slot names its place, so that no slot stands twice.
 use Prim.Native.Nat.{ℕ, zero, suc, _≤_, _<_}
-use mathlib.Core.Path.{_≡_, refl, sym, ap, _∙_}
+use mathlib.Core.Path.{_≡_, refl, ap}
 use mathlib.Core.Logic.{_⊎_, inl, inr}
 use mathlib.Core.List.{List, [], _∷_, _++_}
 use native.Mathlib.Decide.{ℕ-discrete}
@@ -13,8 +13,8 @@ use Rattle.wavl.specs.Lists.{All, In, Differ, Once}
 use Rattle.wavl.proofs.Lists.{all-both, all-of}
 use Rattle.rules.specs.Queue.{Handle, handle}
 use Rattle.rules.specs.Sound.{freeSlots, Under, FreeGeneration}
-use Rattle.holds.specs.Free.{Blank, FreeAt, FreeWords}
-use Rattle.sound.proofs.SlotFacts.{AtRest, GoodSlot, GoodPlace, Good}
+use Rattle.holds.specs.Free.{Blank, FreeWords}
+use Rattle.sound.proofs.SlotFacts.{AtRest, GoodPlace, Good}
 
 -- the handles of the first n places, the topmost first
 unfoldable pub freeList : List ℕ → ℕ → ℕ → List Handle

@@ -1,7 +1,7 @@
 -- A walk that did not break off saw a tree in the words, and joined its entries in their order.
 -- A reader may rely on: grown, for any words: no cycle and no shared node gets past the walk.
 use Prim.Native.Nat.{ℕ, zero, suc, _≤_, _<_}
-use mathlib.Core.Path.{_≡_, refl, sym, ap, _∙_}
+use mathlib.Core.Path.{_≡_, refl, sym, ap}
 use mathlib.Core.Bool.{Bool, true, false}
 use mathlib.Core.List.{List, _∷_}
 use native.Mathlib.Decide.{ℕ-discrete}

@@ -1,31 +1,31 @@
 -- The words of a sound store pass the tests of every slot and of every place of the free stack.
-use Prim.Native.Nat.{ℕ, zero, suc, _≤_, _<_}
-use mathlib.Core.Path.{_≡_, refl, sym, ap, _∙_}
+use Prim.Native.Nat.{ℕ, _≤_, _<_}
+use mathlib.Core.Path.{_≡_, refl, sym, _∙_}
 use mathlib.Core.Logic.{_⊎_, inl, inr, ⊎-elim}
 use mathlib.Core.List.{List, [], _∷_}
 use native.Mathlib.Decide.{ℕ-discrete}
 use native.Mathlib.Omega.{arith}
 use lib.ListN.{length}
 use Rattle.handle.specs.Numbers.{noSlot}
-use Rattle.arena.specs.Words.{field, head, LEFT, RIGHT, RANK, BACK, STACK, GENERATION, ROOT}
-use Rattle.wavl.specs.Lists.{All, In}
-use Rattle.wavl.specs.Entry.{Entry, slots}
+use Rattle.arena.specs.Words.{field, LEFT, RIGHT, RANK, BACK, GENERATION}
+use Rattle.wavl.specs.Lists.{In}
+use Rattle.wavl.specs.Entry.{slots}
 use Rattle.wavl.specs.Tree.{Tree, tip, fork, left, rank, inorder}
-use Rattle.wavl.specs.Ranks.{Fits, Ranks}
+use Rattle.wavl.specs.Ranks.{Ranks}
 use Rattle.wavl.proofs.Lists.{all-in, in-slots}
 use Rattle.wavl.proofs.Rule.{ranked→ranks}
 use Rattle.wavl.proofs.Size.{rank-le-31}
 use Rattle.rules.specs.Queue.{Handle, Queue, entries}
-use Rattle.rules.specs.Sound.{freeSlots, Under, Generation, FreeGeneration}
+use Rattle.rules.specs.Sound.{freeSlots, Under, FreeGeneration}
 use Rattle.holds.specs.Ends.{topSlot}
 use Rattle.holds.specs.Links.{Links}
-use Rattle.holds.specs.Free.{Blank, FreeAt, FreeWords, Retired}
+use Rattle.holds.specs.Free.{Blank, FreeAt, FreeWords}
 use Rattle.holds.specs.Holds.{Holds}
 use Rattle.holds.proofs.Has.{Has, has-cases}
 use Rattle.holds.proofs.Parts.{sound-of, words-of, few-slots, separate-of, used-few, free-low, size-few}
-use Rattle.holds.proofs.States.{FreeSlot, State, live, free, retired, state-of, live-node}
+use Rattle.holds.proofs.States.{State, live, free, retired, state-of, live-node}
 use Rattle.sound.specs.Walking.{deepest}
-use Rattle.sound.proofs.SlotFacts.{AtRest, Hangs, GoodSlot, GoodPlace, Good}
+use Rattle.sound.proofs.SlotFacts.{Hangs, GoodSlot, GoodPlace, Good}
 use Rattle.sound.proofs.Grown.{rank-some}
 use Rattle.sound.proofs.Walks.{top-rank}
 

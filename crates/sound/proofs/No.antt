@@ -1,22 +1,20 @@
 -- No is right: a sound store passes the check. With Yes, the check decides soundness.
-use Prim.Native.Nat.{ℕ, zero, suc, _+_, _≤_, _<_}
-use mathlib.Core.Path.{_≡_, refl, sym, _∙_}
-use mathlib.Core.Bool.{Bool, true, false}
+use Prim.Native.Nat.{ℕ, zero, suc, _+_, _<_}
+use mathlib.Core.Path.{_≡_, refl}
+use mathlib.Core.Bool.{true}
 use mathlib.Core.List.{List}
 use native.Mathlib.Omega.{arith}
 use lib.ListN.{length}
 use borrow.Author.Tests.{le-ltb, eq-eqb}
 use Rattle.handle.specs.Numbers.{noSlot}
-use Rattle.arena.specs.Words.{topLimit, head, TOP, HEIGHT, ROOT}
+use Rattle.arena.specs.Words.{topLimit, head, ROOT}
 use Rattle.arena.proofs.Theorems.{passes}
-use Rattle.wavl.specs.Tree.{inorder}
 use Rattle.wavl.proofs.Rule.{ranked→ranks}
 use Rattle.rules.specs.Queue.{Queue, entries}
-use Rattle.holds.specs.Holds.{Holds, SoundStore}
+use Rattle.holds.specs.Holds.{Holds}
 use Rattle.holds.proofs.Chains.{endOr}
 use Rattle.holds.proofs.Parts.{sound-of, words-of, few-slots, separate-of, live-low}
 use Rattle.sound.specs.Walking.{deepest, walkModel, wholeTest}
-use Rattle.sound.specs.Slots.{slotsTest}
 use Rattle.sound.specs.Check.{topTest, unusedTest, rulesWith, rulesTest, soundModel}
 use Rattle.sound.specs.declared.walking.Walked.the-variants.{To}
 use Rattle.sound.proofs.NodeFacts.{join-is}

@@ -1,12 +1,11 @@
 -- What the tests at a node and between neighbours say, and that they say yes where it is so.
 -- A reader may rely on: each test and its facts are the same, for any words.
-use Prim.Native.Nat.{ℕ, _+_, _-_, _≤_, _<_}
+use Prim.Native.Nat.{ℕ, _-_, _≤_, _<_}
 use mathlib.Core.Path.{_≡_}
-use mathlib.Core.Bool.{Bool, true, false}
+use mathlib.Core.Bool.{true}
 use mathlib.Core.List.{List}
 use native.Mathlib.Omega.{arith}
-use lib.Dec.{ltb, leb, eqb}
-use borrow.Author.Tests.{ltb-true, ltb-false, leb-true, leb-false, eqb-true, lt-ltb, le-ltb, le-leb, lt-leb, eq-eqb}
+use borrow.Author.Tests.{ltb-true, ltb-false, leb-false, eqb-true, lt-ltb, le-ltb, lt-leb, eq-eqb}
 use Rattle.arena.specs.Words.{field, KEY, LEFT, RIGHT, RANK, BACK, GENERATION}
 use Rattle.tree.specs.Links.{rankOf}
 use Rattle.wavl.specs.Ranks.{Fits}

@@ -1,13 +1,13 @@
 -- Every live slot is in the tree that the walk saw: it is the root, or a child of a slot of a greater rank, which is in it too.
 -- The ranks are small, so that going up ends.
 use Prim.Native.Nat.{ℕ, zero, suc, _-_, _≤_, _<_}
-use mathlib.Core.Path.{_≡_, refl, sym, _∙_}
+use mathlib.Core.Path.{_≡_, sym, _∙_}
 use mathlib.Core.Logic.{_⊎_, inl, inr, ⊎-elim}
 use mathlib.Core.List.{List}
 use native.Mathlib.Decide.{decLt}
 use native.Mathlib.Omega.{arith}
 use Rattle.handle.specs.Numbers.{noSlot}
-use Rattle.arena.specs.Words.{field, head, LEFT, RIGHT, RANK, BACK, ROOT}
+use Rattle.arena.specs.Words.{field, LEFT, RIGHT, RANK, BACK}
 use Rattle.wavl.specs.Entry.{slots}
 use Rattle.wavl.specs.Tree.{Tree, tip, fork, left, inorder}
 use Rattle.holds.specs.Ends.{topSlot}

@@ -12,7 +12,7 @@ use Rattle.wavl.specs.Lists.{All, Differ, Once}
 use Rattle.wavl.specs.Entry.{Entry, Before, Rising, slots}
 use Rattle.wavl.proofs.Lists.{Neighbours, pairwise-of}
 use Rattle.rules.specs.Sound.{Under}
-use Rattle.holds.specs.Ends.{firstSlot, lastSlot}
+use Rattle.holds.specs.Ends.{firstSlot}
 use Rattle.holds.specs.Chain.{Chain, ChainWords}
 use Rattle.holds.specs.Entries.{AllEntries}
 use Rattle.holds.proofs.Chains.{endOr, end-last}

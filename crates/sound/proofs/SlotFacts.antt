@@ -1,16 +1,16 @@
 -- What the tests of a slot and of a place of the free stack say, and that they say yes where it is so.
 -- A reader may rely on: each test and its facts are the same, for any words.
 use Prim.Native.Nat.{ℕ, zero, suc, _≤_, _<_}
-use mathlib.Core.Path.{_≡_, refl, sym, _∙_}
+use mathlib.Core.Path.{_≡_, refl}
 use mathlib.Core.Logic.{_⊎_, inl, inr}
-use mathlib.Core.Bool.{Bool, true, false}
+use mathlib.Core.Bool.{true}
 use mathlib.Core.List.{List}
 use native.Mathlib.Omega.{arith}
 use native.Mathlib.Decide.{ℕ-discrete}
-use lib.Dec.{ltb, leb, eqb}
-use borrow.Author.Tests.{ltb-true, ltb-false, leb-true, leb-false, eqb-true, eqb-false, lt-ltb, le-ltb, le-leb, lt-leb, eq-eqb, ne-eqb}
+use lib.Dec.{leb, eqb}
+use borrow.Author.Tests.{leb-true, leb-false, eqb-true, eqb-false, le-leb, lt-leb, eq-eqb, ne-eqb}
 use Rattle.handle.specs.Numbers.{noSlot}
-use Rattle.arena.specs.Words.{field, head, KEY, LEFT, RIGHT, RANK, BACK, PREV, NEXT, GENERATION, VALUE, STACK, ROOT}
+use Rattle.arena.specs.Words.{field, head, LEFT, RIGHT, RANK, BACK, GENERATION, STACK, ROOT}
 use Rattle.rules.specs.Sound.{Generation}
 use Rattle.holds.specs.Free.{Blank}
 use Rattle.arena.proofs.Paths.{no-refusal}

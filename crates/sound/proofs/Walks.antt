@@ -1,29 +1,27 @@
 -- The walk of a tree that stands in the words goes through: where every node and every joint is as the rules have it, no test breaks
 -- it off. A reader may rely on: walks, for any tree of a rank within the budget.
-use Prim.Native.Nat.{ℕ, zero, suc, _-_, _≤_, _<_}
+use Prim.Native.Nat.{ℕ, _-_, _≤_, _<_}
 use mathlib.Core.Path.{_≡_, refl, sym, ap, _∙_}
 use mathlib.Core.Bool.{true}
 use mathlib.Core.List.{List, [], _∷_, _++_}
 use native.Mathlib.Omega.{arith}
 use Rattle.handle.specs.Numbers.{noSlot}
-use Rattle.arena.specs.Words.{field, head, KEY, LEFT, RIGHT, RANK, NEXT, GENERATION}
+use Rattle.arena.specs.Words.{field, KEY}
 use Rattle.tree.specs.Links.{rankOf}
 use Rattle.wavl.specs.Lists.{All}
-use Rattle.wavl.specs.Entry.{Entry, Before, Rising, slots}
+use Rattle.wavl.specs.Entry.{Entry, Rising, slots}
 use Rattle.wavl.specs.Tree.{Tree, tip, fork, rank, inorder}
 use Rattle.wavl.specs.Ranks.{Fits, Ranks}
-use Rattle.wavl.proofs.Lists.{all-left, all-right, all-map}
-use Rattle.rules.specs.Sound.{Under, Generation, LiveGeneration}
-use Rattle.holds.specs.Ends.{topSlot, firstSlot, lastSlot}
+use Rattle.wavl.proofs.Lists.{all-left, all-right}
+use Rattle.rules.specs.Sound.{Under, LiveGeneration}
+use Rattle.holds.specs.Ends.{topSlot, firstSlot}
 use Rattle.holds.specs.Links.{Links}
 use Rattle.holds.specs.Chain.{Chain, ChainWords}
 use Rattle.holds.specs.Entries.{EntryWords, AllEntries}
 use Rattle.holds.proofs.Chains.{endOr, end-last}
-use Rattle.sound.specs.Nodes.{nodeTest}
-use Rattle.sound.specs.Joints.{afterOf, beforeOf}
+use Rattle.sound.specs.Joints.{afterOf}
 use Rattle.sound.specs.Walking.{walkModel}
-use Rattle.sound.specs.declared.walking.Walked.{Walked}
-use Rattle.sound.specs.declared.walking.Walked.the-variants.{To, Broken}
+use Rattle.sound.specs.declared.walking.Walked.the-variants.{To}
 use Rattle.sound.proofs.Turns.{walk-tip, walk-on}
 use Rattle.sound.proofs.NodeFacts.{GoodNode, node-is, Joint, join-is}
 use Rattle.sound.proofs.Rows.{Joined, after-slot, before-slot, after-none, before-none}

@@ -1,23 +1,22 @@
 -- Yes is right: a store that passes the check is sound. The queue is read off the words: its tree as the walk saw it, its free list
 -- as the stack holds it.
 use Prim.Native.Nat.{ℕ, zero, suc, _+_, _-_, _≤_, _<_}
-use mathlib.Core.Path.{_≡_, refl, sym, ap, _∙_}
-use mathlib.Core.Bool.{Bool, true, false}
-use mathlib.Core.List.{List, _++_}
+use mathlib.Core.Path.{_≡_, refl, sym}
+use mathlib.Core.Bool.{true, false}
+use mathlib.Core.List.{List}
 use native.Mathlib.Decide.{ℕ-discrete}
 use native.Mathlib.Omega.{arith}
 use lib.Dec.{ltb, eqb}
-use lib.ListN.{length}
 use borrow.Author.Tests.{ltb-false, eqb-true}
 use Rattle.handle.specs.Numbers.{noSlot}
-use Rattle.arena.specs.Words.{limit, topLimit, need, headWords, field, head, RANK, BACK, STACK, CAPACITY, TOP, HEIGHT, ROOT}
+use Rattle.arena.specs.Words.{limit, topLimit, field, head, RANK, BACK, TOP, HEIGHT, ROOT}
 use Rattle.arena.specs.Header.{headerOf, Passing}
 use Rattle.arena.proofs.Theorems.{passing}
 use Rattle.arena.specs.declared.header.Header.{Header}
 use Rattle.arena.specs.declared.header.Header.the-variants.{Passes, Fails}
-use Rattle.wavl.specs.Lists.{All, In, Once}
-use Rattle.wavl.specs.Entry.{Entry, slots}
-use Rattle.wavl.specs.Tree.{Tree, tip, fork, inorder}
+use Rattle.wavl.specs.Lists.{All, In}
+use Rattle.wavl.specs.Entry.{slots}
+use Rattle.wavl.specs.Tree.{Tree, inorder}
 use Rattle.wavl.specs.Ranks.{Ranked}
 use Rattle.wavl.proofs.Lists.{all-both, all-of, in-left, in-right}
 use Rattle.wavl.proofs.Rule.{ranks→ranked}
@@ -25,8 +24,8 @@ use Rattle.rules.specs.Queue.{Queue}
 use Rattle.rules.specs.Sound.{freeSlots, usedSlots, Under}
 use Rattle.holds.specs.Links.{TreeWords}
 use Rattle.holds.specs.Chain.{ChainWords}
-use Rattle.holds.specs.Free.{Blank, Retired}
-use Rattle.holds.specs.Holds.{Unused, Holds, SoundStore}
+use Rattle.holds.specs.Free.{Retired}
+use Rattle.holds.specs.Holds.{Holds, SoundStore}
 use Rattle.holds.proofs.Has.{Has}
 use Rattle.holds.proofs.States.{slot-entry, live-node}
 use Rattle.holds.proofs.Trees.{slot-low}

@@ -4,7 +4,7 @@
 use Prim.Native.Nat.{ℕ, zero, suc}
 use mathlib.Core.Bool.{Bool, true, false}
 use mathlib.Core.List.{List}
-use lib.Dec.{ltb, leb, eqb}
+use lib.Dec.{leb, eqb}
 use Rattle.handle.specs.Numbers.{noSlot}
 use Rattle.arena.specs.Branch.{ifte}
 use Rattle.arena.specs.Words.{field, head, KEY, LEFT, RIGHT, RANK, BACK, PREV, NEXT, GENERATION, VALUE, STACK, ROOT}

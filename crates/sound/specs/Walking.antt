@@ -2,7 +2,7 @@
 -- Document 01, rule 1: "Live slots form one tree from the root"; rule 3: "The chain .. meets each live slot once, in the tree's
 -- left-to-right order". The walk joins each entry to the one before it, so it follows tree and chain at once.
 use Prim.Native.Nat.{ℕ, zero, suc}
-use mathlib.Core.Bool.{Bool, true, false}
+use mathlib.Core.Bool.{Bool, false}
 use mathlib.Core.List.{List}
 use lib.Dec.{eqb}
 use Rattle.handle.specs.Numbers.{noSlot}

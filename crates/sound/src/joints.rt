@@ -2,7 +2,7 @@
 // slot, for which the header's FIRST and LAST answer.
 // A reader may rely on: each test is a definition of specs/Joints, for any words.
 ghost use mathlib.Core.Path.{_≡_};
-ghost use Prim.Native.Nat.{_<_, _≤_};
+ghost use Prim.Native.Nat.{_<_};
 ghost use Rattle.arena.specs.Words.{Room};
 ghost use Rattle.sound.specs.Joints.{afterOf, beforeOf, risesTest, joinTest};
 use arena::words;

@@ -2,7 +2,7 @@
 // First the header, then each slot and each place of the free stack by single words, then tree and chain by one walk from the root.
 // From the Rust: _check_invariants of ord/find.rs, with the rules that document 01 adds.
 ghost use mathlib.Core.Path.{_≡_};
-ghost use Prim.Native.Nat.{_<_, _≤_};
+ghost use Prim.Native.Nat.{_<_};
 ghost use Rattle.arena.specs.Words.{Room};
 ghost use Rattle.sound.specs.Check.{topTest, unusedTest, rulesTest};
 ghost use Rattle.sound.specs.Decides.{Decides};

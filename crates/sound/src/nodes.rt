@@ -1,7 +1,7 @@
 // The tests at one node of the tree: its back link, its generation, and rule 2 between its rank and its children's.
 // A reader may rely on: each test is a definition of specs/Nodes, for any words.
 ghost use mathlib.Core.Path.{_≡_};
-ghost use Prim.Native.Nat.{_<_, _≤_};
+ghost use Prim.Native.Nat.{_<_};
 ghost use Rattle.arena.specs.Words.{Room};
 ghost use Rattle.sound.specs.Nodes.{fitsTest, generationTest, ranksTest, nodeTest};
 use arena::words;

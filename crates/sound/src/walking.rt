@@ -2,7 +2,7 @@
 // It goes no deeper than its budget, whatever the words hold, and meets no slot twice: a slot has one PREV, so time grows with the
 // capacity. From the Rust: _check_invariants of ord/find.rs.
 ghost use mathlib.Core.Path.{_≡_};
-ghost use Prim.Native.Nat.{_<_, _≤_};
+ghost use Prim.Native.Nat.{_<_};
 ghost use Rattle.arena.specs.Words.{Room};
 ghost use Rattle.sound.specs.Walking.{walkModel, wholeTest};
 use crate::joints;

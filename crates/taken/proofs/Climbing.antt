@@ -17,7 +17,6 @@ use Rattle.wavl.proofs.Removed.{beside}
 use Rattle.lower.specs.Climb.{climbFrom}
 use Rattle.holds.specs.Ends.{number}
 use Rattle.holds.specs.Links.{TreeWords}
-use Rattle.taken.proofs.Kept.{TreeOnly}
 
 -- the rank at the end of a way from a tree of rank h
 abbrev pub peak : ℕ → Way → ℕ
@@ -38,12 +37,6 @@ pub record Climbing (s : List ℕ) (cap : ℕ) (l : List ℕ) (n0 : Tree) (p : W
   pub way : WayRanks (suc (rank n0)) p
   pub some : 1 ≤ rank n0 + beside p
   pub low : peak (suc (rank n0)) p < 64
-
--- the answer is yes, the words hold t, and nothing but the tree of the slots l was written
-pub record Came (s : List ℕ) (cap : ℕ) (l : List ℕ) (t : Tree) (y : List ℕ × Bool) : Type 0 where
-  pub yes : y .1 ≡ true
-  pub words : TreeWords (y .0) cap t
-  pub only : TreeOnly s (y .0) cap l
 
 -- the climb at the end of a way, with so many turns left
 abbrev pub climbUp : Way → ℕ → List ℕ → ℕ → List ℕ × Bool

@@ -26,14 +26,14 @@ use Rattle.tree.specs.declared.Climbed.the-variants.{Done}
 use Rattle.lower.specs.Climb.{goUp, onward, lowerOne, lowerBoth, climbTurn, climbFrom}
 use Rattle.holds.specs.Ends.{topSlot, number}
 use Rattle.holds.specs.Links.{Node, Links, TreeWords}
-use Rattle.holds.proofs.AnyDepth.{Regrown}
+use Rattle.holds.proofs.AnyDepth.{Regrown, Came}
 use Rattle.holds.proofs.Has.{Has, Distinct}
 use Rattle.holds.proofs.Trees.{opened}
 use Rattle.holds.proofs.Ways.{Parted, unplugged}
 use Rattle.taken.proofs.Kept.{TreeOnly, tree-none, tree-trans}
 use Rattle.taken.proofs.Turns.{once-turned, twice-turned}
 use Rattle.taken.proofs.Lowered.{as-node, top-entry, node-other, lowered, upTo, goes-up}
-use Rattle.taken.proofs.Climbing.{peak, peak-above, Climbing, Came, climbUp}
+use Rattle.taken.proofs.Climbing.{peak, peak-above, Climbing, climbUp}
 use Rattle.taken.proofs.Turning.{turn-ends, turn-lowers, turn-rotates, turn-lowers-both, turn-rotates-twice}
 
 pub onward-is : (q : Way) (fuel : ℕ) (t : List ℕ) (cap : ℕ) → onClimbed (upTo q) (λ p2 d2. climbFrom fuel t cap p2 d2) t ≡ climbUp q fuel t cap

@@ -27,7 +27,8 @@ use Rattle.holds.proofs.Trees.{LinkOf}
 use Rattle.holds.proofs.Reshaped.{IsRoot}
 use Rattle.holds.proofs.Writes.{only-weaken}
 use Rattle.taken.proofs.Kept.{tree-trans}
-use Rattle.taken.proofs.Climbing.{peak, Came}
+use Rattle.holds.proofs.AnyDepth.{Came}
+use Rattle.taken.proofs.Climbing.{peak}
 use Rattle.taken.proofs.Settled.{closing, settled}
 use Rattle.taken.proofs.Lifted.{lifted, lift-is, lifted-only, lifted-room, lifted-words, lifted-distinct, lifted-gone, lifted-member}
 use Rattle.taken.proofs.Standing.{stood, stands-is, stands-words, stands-only, stands-distinct, stands-member, stands-room}

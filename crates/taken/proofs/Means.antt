@@ -38,7 +38,7 @@ use Rattle.holds.specs.Holds.{Holds}
 use Rattle.holds.proofs.Parts.{sound-of, words-of, holds-of, few-slots, room-of, separate-of, size-few}
 use Rattle.holds.proofs.Live.{live-is, spot-in, entry-at}
 use Rattle.taken.specs.Meaning.{removedMeans, readMeans, Removes}
-use Rattle.taken.proofs.Climbing.{Came}
+use Rattle.holds.proofs.AnyDepth.{Came}
 use Rattle.taken.proofs.TakesOut.{Taking, takes-out}
 use Rattle.taken.proofs.Unchained.{Out, unlinks, unchained}
 use Rattle.taken.proofs.Released.{releasedTo, releasedAs, Released, released}

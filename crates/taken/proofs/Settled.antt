@@ -30,7 +30,8 @@ use Rattle.holds.proofs.Has.{Distinct}
 use Rattle.holds.proofs.Ways.{unplugged}
 use Rattle.taken.proofs.Kept.{tree-none, tree-trans}
 use Rattle.taken.proofs.Lowered.{lowered, goes-up}
-use Rattle.taken.proofs.Climbing.{peak, peak-above, Came}
+use Rattle.holds.proofs.AnyDepth.{Came}
+use Rattle.taken.proofs.Climbing.{peak, peak-above}
 use Rattle.taken.proofs.Climbs.{onward-is, climbs}
 
 -- the words hold a tree with the slots l, in which c hangs where a node one higher than it has gone

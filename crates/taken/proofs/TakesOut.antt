@@ -22,7 +22,7 @@ use Rattle.holds.specs.Chain.{ChainWords}
 use Rattle.holds.proofs.Has.{Distinct}
 use Rattle.holds.proofs.Ways.{unplugged}
 use Rattle.taken.proofs.Kept.{tree-trans}
-use Rattle.taken.proofs.Climbing.{Came}
+use Rattle.holds.proofs.AnyDepth.{Came}
 use Rattle.taken.proofs.Settled.{closing, childless, has-left-child, has-right-child, settled}
 use Rattle.taken.proofs.Lifted.{lifted, lift-is, lifted-only, lifted-room, lifted-words, lifted-distinct, lifted-member}
 use Rattle.taken.proofs.Filled.{plug-append, peak-rank, came-weaken, filled}

@@ -1,6 +1,6 @@
 -- `due::moment` meets its contract: no step overflows (proofs/Moments), so each is read back from its bits as it is.
 -- Assumes nothing.
-use mathlib.Core.Path.{_≡_, _∙_}
+use mathlib.Core.Path.{_∙_}
 use borrow.Author.Needs.{sfits-of}
 use mir.Facts.{toZ-ofZ}
 use Rattle.rules.specs.Due.{momentOf}

@@ -1,7 +1,7 @@
 -- `due::time_of` meets its contract: the key is tested against the first and the last moment of the days in range, which
 -- is the definition's test of the day (`day-range` of the crate `rules`), and then taken apart by `floored`.
 -- Assumes nothing.
-use mathlib.Core.Path.{_≡_, sym, ap, ap₂, _∙_}
+use mathlib.Core.Path.{_≡_, sym, ap₂, _∙_}
 use mathlib.Core.Bool.{true, false}
 use borrow.Author.Needs.{needs, sfits-of}
 use borrow.Author.Tests.{not-true, not-false}

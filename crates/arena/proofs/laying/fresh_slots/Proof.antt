@@ -1,7 +1,6 @@
-use mathlib.Core.Path.{_≡_, refl}
+use mathlib.Core.Path.{_≡_}
 use Prim.Native.Nat.{_-_}
 use native.Mathlib.Omega.{arith}
-use borrow.Author.Needs.{needs}
 use lib.ListN.{length}
 use Rattle.arena.specs.Laying.{laySlots}
 use Rattle.arena.proofs.Turns.{slots-start, slots-turn, slots-end}

@@ -1,5 +1,4 @@
 use Rattle.arena.specs.Laying.{unlinked}
-use Rattle.arena.proofs.Paths.{paths}
 use borrow.Author.Needs.{needs}
 use Rattle.arena.proofs.laying.unlink.Statement.{statement}
 use Rattle.arena.proofs.laying.unlink.Tie as tie

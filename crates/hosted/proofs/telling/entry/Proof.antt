@@ -9,7 +9,7 @@ put-row-requires : tie.Need-put-row-requires
 put-row-requires c κs = search needs
 
 returns : tie.Need-returns
-returns c = cc
+returns c = rw (c .put-row .ensures, c .before .before .stored-key .ensures)
 
 pub entry-spec : {M : Type 1} → statement M
 entry-spec = tie.close (tie.spec stored-key-requires put-row-requires returns)

@@ -6,7 +6,7 @@ put-row-requires : tie.Need-put-row-requires
 put-row-requires c κs = search needs
 
 returns : tie.Need-returns
-returns c = cc
+returns c = rw (c .put-row .ensures)
 
 pub handle-spec : {M : Type 1} → statement M
 handle-spec = tie.close (tie.spec put-row-requires returns)

@@ -1,8 +1,7 @@
-use Prim.Native.Nat.{_-_, _≤_}
+use Prim.Native.Nat.{_-_}
 use mathlib.Core.Path.{_≡_}
 use lib.ListN.{length, drop}
 use Rattle.arena.proofs.Paths.{paths}
-use native.Mathlib.Omega.{arith}
 use Rattle.script.proofs.Reading.{read-no-digit, read-tens-over, read-digit-over, read-more, read-end}
 use Rattle.script.specs.Numbers.{readOn, unsignedOf}
 use borrow.Author.Needs.{needs}

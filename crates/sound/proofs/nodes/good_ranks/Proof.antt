@@ -1,6 +1,4 @@
 use Rattle.sound.proofs.Answers.{ranks-reads}
-use Rattle.arena.proofs.Paths.{paths}
-use Rattle.sound.specs.Nodes.{ranksTest}
 use borrow.Author.Needs.{needs}
 use Rattle.sound.proofs.nodes.good_ranks.Statement.{statement}
 use Rattle.sound.proofs.nodes.good_ranks.Tie as tie
