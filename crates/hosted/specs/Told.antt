@@ -1,6 +1,6 @@
 -- Answers as numbers: a code, and a row of four. A refusal's code is document 01's number and its row is all 0; any other answer's
--- code is 16 and up. A reader may rely on: no two answers of a call are told alike, but for a side of Equal beside an entry,
--- which no search gives.
+-- code is 16 and up. That no two answers of a call are told alike (but for a side of Equal beside an entry, which no search gives) is
+-- read off these lines; no theorem says it.
 use Prim.Native.Nat.{ℕ}
 use mathlib.Core.List.{List, [], _∷_}
 use Rattle.handle.specs.Numbers.{refusalNumber}
