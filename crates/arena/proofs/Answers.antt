@@ -11,11 +11,12 @@ use Rattle.handle.specs.declared.Generation.{Generation}
 use Rattle.handle.specs.declared.Handle.{Handle}
 use Rattle.handle.specs.declared.Refusal.the-variants.{BadLayout}
 use Rattle.arena.specs.Keys.{signed}
-use Rattle.arena.specs.Words.{limit, topLimit, headWords, need, Room, field, put, head, putHead, KEY, RANK, GENERATION, VALUE, STACK, CAPACITY, TOP, HEIGHT}
+use Rattle.handle.specs.Numbers.{limit, topLimit}
+use Rattle.arena.specs.Words.{headWords, need, Room, field, put, head, putHead, KEY, RANK, GENERATION, VALUE, STACK, CAPACITY, TOP, HEIGHT}
 use Rattle.arena.specs.Header.{headerOf, Passing, Says}
 use Rattle.arena.specs.Laying.{blankOf, goodLayout, Good, freshHead, laySlots, laid, layOut}
-use Rattle.arena.specs.Slots.{FoundIn, handleOf, foundAt, peekFrom, peekSlot, popped, takeSlot, pushed, freeWith, freeSlot}
-use Rattle.arena.specs.Entries.{isLive, entryOf}
+use Rattle.arena.specs.inner.Slots.{FoundIn, handleOf, foundAt, peekFrom, peekSlot, popped, takeSlot, pushed, freeWith, freeSlot}
+use Rattle.arena.specs.inner.Entries.{isLive, entryOf}
 use Rattle.arena.specs.declared.header.Header.{Header}
 use Rattle.arena.specs.declared.header.Header.the-variants.{Passes, Fails}
 use Rattle.arena.specs.declared.laying.LaidOut.{LaidOut}

@@ -7,7 +7,7 @@ use native.Mathlib.Decide.{decLt}
 use lib.ListN.{getD}
 use lib.Seq.{ext-getD}
 use Rattle.arena.specs.Words.{need, headWords, fields, place, field, head}
-use Rattle.arena.specs.Agree.{Agree}
+use Rattle.arena.specs.inner.Agree.{Agree}
 use Rattle.arena.proofs.Places.{place-near, place-far}
 
 -- the slot and the field whose place is k

@@ -9,7 +9,8 @@ use borrow.Author.Tests.{ltb-false}
 use lib.ListN.{length, getD}
 use Rattle.handle.specs.declared.Refusal.the-variants.{BadLayout}
 use Rattle.arena.specs.Branch.{ifte}
-use Rattle.arena.specs.Words.{limit, need, Room, headWords, head, CAPACITY}
+use Rattle.handle.specs.Numbers.{limit}
+use Rattle.arena.specs.Words.{need, Room, headWords, head, CAPACITY}
 use Rattle.arena.specs.Header.{headerOf, Passing}
 use Rattle.arena.specs.Laying.{zeroed, freshHead, laid, layOut, goodLayout, Good, headerWords, Fresh}
 use Rattle.arena.specs.declared.header.Header.{Header}

@@ -6,7 +6,8 @@ use mathlib.Core.List.{List}
 use lib.Dec.{ltb}
 use lib.ListN.{length}
 use Rattle.arena.specs.Branch.{ifte}
-use Rattle.arena.specs.Words.{limit, headWords, need, Room, head, CAPACITY}
+use Rattle.handle.specs.Numbers.{limit}
+use Rattle.arena.specs.Words.{headWords, need, Room, head, CAPACITY}
 use Rattle.arena.specs.declared.header.Header.{Header}
 use Rattle.arena.specs.declared.header.Header.the-variants.{Passes, Fails}
 

@@ -7,10 +7,10 @@ use mathlib.Core.Path.{_≡_}
 use mathlib.Core.List.{List, [], _∷_}
 use lib.Dec.{ltb}
 use lib.ListN.{length, getD}
-use Rattle.handle.specs.Numbers.{noSlot, firstGeneration}
+use Rattle.handle.specs.Numbers.{noSlot, firstGeneration, limit, topLimit}
 use Rattle.handle.specs.declared.Refusal.the-variants.{BadLayout}
 use Rattle.arena.specs.Branch.{ifte}
-use Rattle.arena.specs.Words.{limit, topLimit, headWords, fields, need, field, put, head, putHead, KEY, LEFT, RIGHT, RANK, BACK, PREV, NEXT, GENERATION, VALUE, STACK, CAPACITY, TOP, HEIGHT, FIRST, LAST, ROOT}
+use Rattle.arena.specs.Words.{headWords, fields, need, field, put, head, putHead, KEY, LEFT, RIGHT, RANK, BACK, PREV, NEXT, GENERATION, VALUE, STACK, CAPACITY, TOP, HEIGHT, FIRST, LAST, ROOT}
 use Rattle.arena.specs.declared.laying.LaidOut.{LaidOut}
 use Rattle.arena.specs.declared.laying.LaidOut.the-variants.{Done, Refused}
 

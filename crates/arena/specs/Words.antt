@@ -7,14 +7,6 @@ use lib.ListN.{getD, set, length}
 use lib.Dec.{ltb}
 use Rattle.arena.specs.Branch.{ifte}
 
--- "capacity 1 to 1,024 slots"
-abbrev pub limit : ℕ
-limit = 1024
-
--- "the top generation, 1 to 4,294,967,295"
-abbrev pub topLimit : ℕ
-topLimit = 4294967295
-
 -- how many words the header and a slot have
 abbrev pub headWords : ℕ
 headWords = 16

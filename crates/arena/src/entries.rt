@@ -3,7 +3,7 @@
 ghost use mathlib.Core.Path.{_≡_};
 ghost use Prim.Native.Nat.{_<_};
 ghost use Rattle.arena.specs.Words.{Room};
-ghost use Rattle.arena.specs.Entries.{isLive, entryOf, entryPut};
+ghost use Rattle.arena.specs.inner.Entries.{isLive, entryOf, entryPut};
 use crate::keys;
 use crate::words;
 use crate::words::GENERATION;

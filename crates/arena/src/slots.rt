@@ -3,7 +3,7 @@
 ghost use mathlib.Core.Path.{_≡_};
 ghost use Prim.Native.Nat.{_<_};
 ghost use Rattle.arena.specs.Words.{Room};
-ghost use Rattle.arena.specs.Slots.{FoundIn, peekSlot, popped, takeSlot, TakenIn, pushed, freeSlot};
+ghost use Rattle.arena.specs.inner.Slots.{FoundIn, peekSlot, popped, takeSlot, TakenIn, pushed, freeSlot};
 use crate::laying;
 use crate::words;
 use crate::words::GENERATION;

@@ -4,8 +4,8 @@ use mathlib.Core.Path.{_≡_}
 use mathlib.Core.List.{List}
 use Rattle.handle.specs.declared.Handle.{Handle}
 use Rattle.arena.specs.Words.{field, PREV, NEXT}
-use Rattle.chain.specs.Links.{hooked, joined, neighbours, unlinkSlot}
-use Rattle.chain.specs.Steps.{followed, stepFrom}
+use Rattle.chain.specs.inner.Links.{hooked, joined, neighbours, unlinkSlot}
+use Rattle.chain.specs.inner.Steps.{followed, stepFrom}
 use Rattle.chain.specs.declared.Neighbours.{Neighbours}
 use Rattle.chain.specs.declared.Stepped.{Stepped}
 use Rattle.chain.specs.declared.Stepped.the-variants.{At}

@@ -7,8 +7,8 @@ use native.Mathlib.Decide.{decLt}
 use borrow.Author.Tests.{lt-ltb, le-ltb}
 use Rattle.arena.specs.Words.{Room, headWords, fields, field, put, head, putHead, NEXT, FIRST}
 use Rattle.arena.proofs.Laws.{field-same, head-put, head-same, head-other, field-putHead}
-use Rattle.chain.specs.Kept.{ChainOnly}
-use Rattle.chain.specs.Links.{hooked}
+use Rattle.chain.specs.inner.Kept.{ChainOnly}
+use Rattle.chain.specs.inner.Links.{hooked}
 use Rattle.chain.proofs.Keeps.{only-put, only-putHead, field-other}
 
 module _ (s : List ℕ) (cap p q d : ℕ) (hd : d ≤ 1) where

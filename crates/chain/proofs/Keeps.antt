@@ -6,7 +6,7 @@ use native.Mathlib.Omega.{arith}
 use native.Mathlib.Decide.{ℕ-discrete}
 use Rattle.arena.specs.Words.{Room, headWords, fields, field, put, putHead, PREV, NEXT, FIRST, LAST}
 use Rattle.arena.proofs.Laws.{length-put, length-putHead, field-slot, field-off, head-put, rest-put, head-other, field-putHead, rest-putHead}
-use Rattle.chain.specs.Kept.{ChainOnly}
+use Rattle.chain.specs.inner.Kept.{ChainOnly}
 
 pub only-trans : (s t u : List ℕ) (cap : ℕ) → ChainOnly s t cap → ChainOnly t u cap → ChainOnly s u cap
 only-trans s t u cap a b =

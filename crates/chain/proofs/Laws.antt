@@ -7,8 +7,8 @@ use native.Mathlib.Omega.{arith}
 use Rattle.handle.specs.Numbers.{noSlot}
 use Rattle.arena.specs.Words.{Room, headWords, fields, field, put, head, putHead, PREV, NEXT, FIRST, LAST}
 use Rattle.arena.proofs.Laws.{length-put, length-putHead, field-same, field-slot, field-off, head-put, head-same, head-other, field-putHead}
-use Rattle.chain.specs.Kept.{ChainOnly}
-use Rattle.chain.specs.Links.{hooked, linkAlone, between, linkBeside, joined, neighbours, unlinkSlot}
+use Rattle.chain.specs.inner.Kept.{ChainOnly}
+use Rattle.chain.specs.inner.Links.{hooked, linkAlone, between, linkBeside, joined, neighbours, unlinkSlot}
 use Rattle.chain.proofs.Keeps.{only-trans, only-put, only-putHead, field-other, room-put}
 use Rattle.chain.proofs.Hooks.{hooked-only, hooked-at, hooked-field, hooked-end, hooked-head, hooked-heads}
 

@@ -5,9 +5,9 @@ use mathlib.Core.List.{List}
 use native.Mathlib.Omega.{arith}
 use borrow.Author.Tests.{eq-eqb, ne-eqb, lt-leb}
 use Rattle.handle.specs.Numbers.{noSlot}
-use Rattle.arena.specs.Slots.{handleOf}
+use Rattle.arena.specs.inner.Slots.{handleOf}
 use Rattle.arena.specs.Words.{field, GENERATION}
-use Rattle.chain.specs.Steps.{followed}
+use Rattle.chain.specs.inner.Steps.{followed}
 use Rattle.chain.specs.declared.Stepped.the-variants.{At, End}
 
 module _ (s : List ℕ) (cap p : ℕ) where

@@ -1,3 +1,1 @@
-pub mod Links
-pub mod Steps
-pub mod Kept
+pub mod inner

@@ -4,8 +4,8 @@
 ghost use mathlib.Core.Path.{_≡_};
 ghost use Prim.Native.Nat.{_<_, _≤_};
 ghost use Rattle.arena.specs.Words.{Room};
-ghost use Rattle.chain.specs.Links.{hooked, linkAlone, linkBeside, unlinkSlot};
-ghost use Rattle.chain.specs.Steps.{followed, stepFrom, endOf, SteppedIn};
+ghost use Rattle.chain.specs.inner.Links.{hooked, linkAlone, linkBeside, unlinkSlot};
+ghost use Rattle.chain.specs.inner.Steps.{followed, stepFrom, endOf, SteppedIn};
 use arena::words;
 use arena::words::FIRST;
 use arena::words::GENERATION;

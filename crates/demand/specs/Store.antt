@@ -7,7 +7,7 @@ use mathlib.Core.Option.{Option, none, some}
 use Rattle.handle.specs.declared.Handle as H
 use Rattle.handle.specs.declared.Side as D
 use Rattle.arena.specs.Keys.{signed}
-use Rattle.arena.specs.Slots.{handleOf}
+use Rattle.arena.specs.inner.Slots.{handleOf}
 use Rattle.insert.specs.declared.place.Inserted as I
 use Rattle.remove.specs.declared.removing.Removed as X
 use Rattle.rules.specs.Queue.{Handle}
@@ -16,10 +16,10 @@ use Rattle.rules.specs.Insert.{Where, less, equal, greater}
 use Rattle.rules.specs.Calls.{Call, normal, onEmpty, manual, lookNormal, lookEmpty, lookManual, removal, reading, searching, toFirst, toLast, toNext, toPrev, Answer, insertion, lookAhead, taken, seen, sought, cursor}
 use Rattle.placed.specs.Meaning.{insertedMeans, aheadMeans}
 use Rattle.taken.specs.Meaning.{removedMeans, readMeans}
-use Rattle.queue.specs.Placing.{insertCall, emptyCall, manualCall, aheadCall, aheadEmptyCall, aheadManualCall}
-use Rattle.queue.specs.Taking.{removeCall}
-use Rattle.queue.specs.Looking.{searchCall, readCall}
-use Rattle.queue.specs.Moving.{startCall, stepCall}
+use Rattle.queue.specs.inner.Placing.{insertCall, emptyCall, manualCall, aheadCall, aheadEmptyCall, aheadManualCall}
+use Rattle.queue.specs.inner.Taking.{removeCall}
+use Rattle.queue.specs.inner.Looking.{searchCall, readCall}
+use Rattle.queue.specs.inner.Moving.{startCall, stepCall}
 use Rattle.queue.specs.Readings.{searchMeans, movedMeans}
 
 -- a handle of the history as the caller holds it

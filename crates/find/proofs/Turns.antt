@@ -5,7 +5,7 @@ use mathlib.Core.List.{List}
 use native.Mathlib.Omega.{arith}
 use Rattle.handle.specs.Numbers.{noSlot}
 use Rattle.arena.specs.Words.{field, head, KEY, LEFT, ROOT}
-use Rattle.find.specs.Seeking.{sideOf, budget, seekFrom, seekModel}
+use Rattle.find.specs.inner.Seeking.{sideOf, budget, seekFrom, seekModel}
 use Rattle.find.proofs.Laws.{seek-empty, seek-some, seek-outside, seek-equal, seek-beside, seek-down}
 use Rattle.find.specs.declared.Found.{Found}
 use Rattle.find.specs.declared.Found.the-variants.{Equal, Beside, Empty, NotSound}

@@ -1,1 +1,1 @@
-pub mod Seeking
+pub mod inner

@@ -4,7 +4,7 @@
 ghost use mathlib.Core.Path.{_≡_};
 ghost use Prim.Native.Nat.{_<_, _≤_};
 ghost use Rattle.arena.specs.Words.{Room};
-ghost use Rattle.find.specs.Seeking.{sideOf, seekModel, FoundIn};
+ghost use Rattle.find.specs.inner.Seeking.{sideOf, seekModel, FoundIn};
 use arena::words;
 use arena::words::KEY;
 use arena::words::LEFT;

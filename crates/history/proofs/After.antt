@@ -9,8 +9,8 @@ use Rattle.rules.specs.Queue.{Handle, Queue, Names}
 use Rattle.rules.specs.Answers.{Inserted, new, replacing, notInserted, Note, noNote, generationOverflow, Removed, removed, notRemoved}
 use Rattle.rules.specs.Remove.{noteOf, remove}
 use Rattle.rules.specs.Sound.{Sound}
-use Rattle.rules.specs.Changes.{Adds, Swaps, Takes, AfterInserting, AfterRemoving}
-use Rattle.rules.specs.Handles.{FreedBy}
+use Rattle.rules.specs.inner.Changes.{Adds, Swaps, Takes, AfterInserting, AfterRemoving}
+use Rattle.rules.specs.inner.Handles.{FreedBy}
 use Rattle.rules.specs.Table.{NoteFits, RemoveAnswers}
 use Rattle.rules.specs.Calls.{Call, normal, onEmpty, manual, lookNormal, lookEmpty, lookManual, removal, reading, searching, toFirst, toLast, toNext, toPrev, insertion, taken, answer}
 use Rattle.rules.proofs.Told.{remove-answers}

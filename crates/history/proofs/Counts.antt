@@ -6,7 +6,7 @@ use native.Mathlib.Omega.{arith}
 use lib.ListN.{length}
 use Rattle.rules.specs.Queue.{Queue}
 use Rattle.rules.specs.Answers.{Note, noNote, generationOverflow}
-use Rattle.rules.specs.Handles.{FreedBy}
+use Rattle.rules.specs.inner.Handles.{FreedBy}
 use Rattle.rules.proofs.Handles.{adds-free, swaps-free}
 use Rattle.history.specs.Deed.{Deed, adds, replaces, takesOut, nothing}
 use Rattle.history.specs.Left.{gives, drops, noteCount, notes}

@@ -12,7 +12,8 @@ use Rattle.wavl.proofs.Lists.{all-in}
 use Rattle.rules.specs.Queue.{Handle, handleOf, Queue, fresh, entries, Holds, Has, Names, Live}
 use Rattle.rules.specs.Answers.{Read, reads, notRead, Found, equalAt, beside, noEntry}
 use Rattle.rules.specs.Look.{read, searchFor}
-use Rattle.rules.specs.Sound.{InRange, Sound}
+use Rattle.handle.specs.Numbers.{InRange}
+use Rattle.rules.specs.Sound.{Sound}
 use Rattle.rules.specs.Table.{ReadAnswers, SearchAnswers}
 use Rattle.rules.specs.Calls.{Call, reading, Answer, insertion, taken, seen, cursor, answer, run}
 use Rattle.rules.proofs.Places.{slot-unique}

@@ -5,7 +5,8 @@ use mathlib.Core.List.{List, [], _∷_}
 use Prim.Native.Nat.{ℕ}
 use Rattle.wavl.specs.Lists.{All}
 use Rattle.rules.specs.Queue.{Queue, fresh}
-use Rattle.rules.specs.Sound.{InRange, Sound}
+use Rattle.handle.specs.Numbers.{InRange}
+use Rattle.rules.specs.Sound.{Sound}
 use Rattle.rules.specs.Calls.{Call, Answer, answer, run}
 use Rattle.rules.proofs.Kept.{fresh-sound}
 use Rattle.rules.proofs.History.{answer-sound}

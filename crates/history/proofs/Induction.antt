@@ -11,7 +11,8 @@ use Rattle.wavl.specs.Entry.{Entry}
 use Rattle.wavl.specs.Tree.{inorder}
 use Rattle.wavl.proofs.Lists.{all-map, all-both, in-left, in-right, in-cases}
 use Rattle.rules.specs.Queue.{Handle, Queue, freshFrom, fresh, entries, Live}
-use Rattle.rules.specs.Sound.{InRange, Sound}
+use Rattle.handle.specs.Numbers.{InRange}
+use Rattle.rules.specs.Sound.{Sound}
 use Rattle.rules.specs.Calls.{Call, answer, run}
 use Rattle.rules.proofs.Kept.{fresh-sound}
 use Rattle.rules.proofs.History.{answer-sound}

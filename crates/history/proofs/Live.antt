@@ -9,7 +9,7 @@ use Rattle.wavl.specs.Entry.{Entry, revalued}
 use Rattle.wavl.proofs.Lists.{all-map, in-left, in-middle}
 use Rattle.rules.specs.Queue.{Handle, handleOf, entryWith, Queue, entries, Names, Live}
 use Rattle.rules.specs.Sound.{Sound}
-use Rattle.rules.specs.Changes.{Swaps, Takes}
+use Rattle.rules.specs.inner.Changes.{Swaps, Takes}
 use Rattle.rules.proofs.Lists.{in-put, in-drop, all-put, all-drop, all-at}
 use Rattle.rules.proofs.Handles.{adds-handle, takes-handle}
 use Rattle.history.specs.Deed.{Deed, adds, replaces, takesOut, nothing}

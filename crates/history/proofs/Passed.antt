@@ -12,8 +12,8 @@ use Rattle.wavl.proofs.Lists.{all-map, in-middle, in-slots, pairwise-across}
 use Rattle.rules.specs.Queue.{Handle, handle, handleOf, entryWith, Queue, entries, Holds, Names, Live}
 use Rattle.rules.specs.Remove.{freed}
 use Rattle.rules.specs.Sound.{freeSlots, Sound}
-use Rattle.rules.specs.Changes.{Adds, Swaps, Takes}
-use Rattle.rules.specs.Handles.{HandleGone}
+use Rattle.rules.specs.inner.Changes.{Adds, Swaps, Takes}
+use Rattle.rules.specs.inner.Handles.{HandleGone}
 use Rattle.rules.proofs.Lists.{in-put, in-drop}
 use Rattle.rules.proofs.Places.{slot-unique}
 use Rattle.rules.proofs.Removing.{live-once}

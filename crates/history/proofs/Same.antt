@@ -8,7 +8,7 @@ use Rattle.wavl.specs.Entry.{Entry, revalued, slots}
 use Rattle.wavl.proofs.Lists.{all-in, all-of, all-left, all-right, in-slots, slots-append}
 use Rattle.rules.specs.Queue.{Handle, entryWith, Queue, entries, Names}
 use Rattle.rules.specs.Sound.{Sound}
-use Rattle.rules.specs.Changes.{Swaps, Takes}
+use Rattle.rules.specs.inner.Changes.{Swaps, Takes}
 use Rattle.rules.proofs.Lists.{once-differ, slots-put}
 use Rattle.rules.proofs.Removing.{live-once}
 use Rattle.history.specs.Deed.{Deed, adds, replaces, takesOut, nothing}

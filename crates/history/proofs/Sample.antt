@@ -17,7 +17,7 @@ use Rattle.rules.specs.Calls.{answer, run}
 use Rattle.rules.specs.Bench.{key, put, take, ent}
 use Rattle.history.specs.Deed.{paired, byInsertion, byRemoval, deed}
 use Rattle.history.specs.Left.{revalue, without, does, leaves, gives, given, drops, gone, noteCount, notes, noted}
-use Rattle.history.specs.Sample.{script, shown, expected}
+use Rattle.history.specs.inner.Sample.{script, shown, expected}
 
 pub sample : shown ≡ expected
 unfolding decLe decLt ℕ-discrete choose first last inorder plug before after neighbour replaceAt placeRound byPlace insertClimb insertAt takeRound byTake removeClimb settle endmost vacateEnd vacate removeAt keyRound byKey find findSlot freshFrom fresh ofGeneration spotOf addWith placeNormal insertNormal ahead aheadNormal readSpot read foundIn searchFor freed noteOf removeSpot remove answer run key put take ent paired byInsertion byRemoval deed revalue without does leaves gives given drops gone noteCount notes noted script shown expected

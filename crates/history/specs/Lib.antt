@@ -3,4 +3,4 @@ pub mod Deed
 pub mod Left
 pub mod Demand
 pub mod Follow
-pub mod Sample
+pub mod inner

@@ -9,7 +9,7 @@ use native.Mathlib.Omega.{arith}
 use lib.Dec.{lit<}
 use Rattle.handle.specs.Numbers.{noSlot}
 use Rattle.arena.specs.Words.{Room, head, ROOT}
-use Rattle.tree.specs.Links.{relinked, withChild}
+use Rattle.tree.specs.inner.Links.{relinked, withChild}
 use Rattle.wavl.specs.Lists.{In}
 use Rattle.wavl.specs.Entry.{slots}
 use Rattle.wavl.specs.Tree.{left, Tree, tip, fork, inorder}
@@ -17,8 +17,8 @@ use Rattle.wavl.specs.Way.{step, Way, plug}
 use Rattle.wavl.proofs.Order.{IsFork}
 use Rattle.holds.specs.Ends.{topSlot, number}
 use Rattle.holds.specs.Links.{Links, TreeWords}
-use Rattle.holds.specs.Ways.{parent, sideIn}
-use Rattle.holds.specs.Writes.{Only}
+use Rattle.holds.specs.inner.Ways.{parent, sideIn}
+use Rattle.holds.specs.inner.Writes.{Only}
 use Rattle.holds.proofs.Has.{Has, Distinct, has-top}
 use Rattle.holds.proofs.Trees.{number-small, LinkOf, SameLinks, slot-low}
 use Rattle.holds.proofs.Ways.{unplugged, HasWay, has-plug, has-way, way-apart}

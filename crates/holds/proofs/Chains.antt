@@ -8,9 +8,9 @@ use mathlib.Core.Option.{Option, some, none}
 use Rattle.handle.specs.Numbers.{noSlot}
 use Rattle.handle.specs.declared.Handle as H
 use Rattle.arena.specs.Words.{field, PREV}
-use Rattle.arena.specs.Slots.{handleOf}
+use Rattle.arena.specs.inner.Slots.{handleOf}
 use Rattle.chain.specs.declared.Stepped as C
-use Rattle.chain.specs.Steps.{followed, stepFrom, endOf}
+use Rattle.chain.specs.inner.Steps.{followed, stepFrom, endOf}
 use Rattle.chain.proofs.StepLaws.{follow-none, follow-at}
 use Rattle.wavl.specs.Lists.{In, first, last}
 use Rattle.wavl.specs.Entry.{Entry, slots}
@@ -28,7 +28,7 @@ use Rattle.holds.specs.Ends.{firstSlot, lastSlot, number}
 use Rattle.holds.specs.Chain.{Between, Chain}
 use Rattle.holds.specs.Holds.{Holds}
 use Rattle.holds.specs.Handles.{plain}
-use Rattle.holds.specs.Meanings.{stepMeans}
+use Rattle.holds.specs.inner.Meanings.{stepMeans}
 use Rattle.holds.proofs.Parts.{sound-of, words-of, few-slots, separate-of, live-low}
 use Rattle.holds.proofs.Live.{live-entry}
 

@@ -10,14 +10,14 @@ use lib.ListN.{length}
 use Rattle.handle.specs.Numbers.{noSlot}
 use Rattle.arena.specs.Words.{Room, field, put, head, KEY, LEFT, RIGHT, RANK, BACK, PREV, NEXT, GENERATION, VALUE, STACK, TOP, HEIGHT}
 use Rattle.arena.specs.Laying.{unlinked, blankOf}
-use Rattle.arena.specs.Slots.{pushed, freeWith, freeSlot}
+use Rattle.arena.specs.inner.Slots.{pushed, freeWith, freeSlot}
 use Rattle.arena.specs.declared.slots.Freed as F
 use Rattle.arena.proofs.Laws.{lit≢, length-put, field-at, field-same, field-off, head-same, field-putHead}
 use Rattle.wavl.specs.Lists.{All, In}
 use Rattle.rules.specs.Queue.{Handle, handle}
 use Rattle.rules.specs.Sound.{freeSlots, Under}
 use Rattle.holds.specs.Free.{Blank, FreeAt, FreeStack, Retired}
-use Rattle.holds.specs.Writes.{Only}
+use Rattle.holds.specs.inner.Writes.{Only}
 use Rattle.holds.proofs.Writes.{only-trans, only-put, only-putHead}
 use Rattle.holds.proofs.Groups.{free-words-stay}
 use Rattle.holds.proofs.Stack.{IsHeight}

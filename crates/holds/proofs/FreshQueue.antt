@@ -14,11 +14,12 @@ use Rattle.wavl.specs.Lists.{In}
 use Rattle.wavl.specs.Entry.{slots}
 use Rattle.wavl.specs.Tree.{inorder}
 use Rattle.rules.specs.Queue.{freshFrom, fresh}
-use Rattle.rules.specs.Sound.{InRange, freeSlots}
+use Rattle.handle.specs.Numbers.{InRange}
+use Rattle.rules.specs.Sound.{freeSlots}
 use Rattle.rules.proofs.Kept.{fresh-sound}
 use Rattle.holds.specs.Free.{Blank, FreeWords}
 use Rattle.holds.specs.Holds.{Holds, Unused}
-use Rattle.holds.proofs.Parts.{same-limit, same-topLimit, holds-of}
+use Rattle.holds.proofs.Parts.{holds-of}
 
 length-from : (i n : ℕ) → length (freshFrom i n) ≡ n
 unfolding freshFrom
@@ -84,7 +85,7 @@ module _ (s t : List ℕ) (cap top : ℕ) (f : Fresh s t cap top) where
   pub fresh-holds : Good (length s) cap top → Holds t (fresh cap top)
   unfolding fresh inorder slots
   fresh-holds g =
-      let r : InRange cap top = record { capacity-from = g .some; capacity-to = rw same-limit (g .few); top-from = g .top-some; top-to = rw same-topLimit (g .top-few) } in
+      let r : InRange cap top = record { capacity-from = g .some; capacity-to = g .few; top-from = g .top-some; top-to = g .top-few } in
       holds-of (fresh-sound cap top r) (record {
         header = record {
           passes = record { capacity = f .heads CAPACITY (lit< tt); some = g .some; few = g .few; room = rw (f .long) (g .room) };

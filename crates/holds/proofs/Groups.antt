@@ -19,7 +19,7 @@ use Rattle.holds.specs.Chain.{Chain, ChainWords}
 use Rattle.holds.specs.Entries.{EntryWords, AllEntries}
 use Rattle.holds.specs.Free.{Blank, FreeWords, FreeStack, Retired, AllRetired}
 use Rattle.holds.specs.Holds.{Unused}
-use Rattle.holds.specs.Writes.{Only}
+use Rattle.holds.specs.inner.Writes.{Only}
 use Rattle.holds.proofs.Has.{Has}
 use Rattle.holds.proofs.Trees.{LinkField, SameLinks, links-keep}
 

@@ -8,7 +8,7 @@ use native.Mathlib.Omega.{arith}
 use lib.Dec.{lit<}
 use Rattle.handle.specs.Numbers.{noSlot}
 use Rattle.arena.specs.Words.{Room, fields, field, head, PREV, NEXT, FIRST, LAST}
-use Rattle.chain.specs.Links.{between, joined, linkAlone}
+use Rattle.chain.specs.inner.Links.{between, joined, linkAlone}
 use Rattle.chain.proofs.Laws.{between-near, between-far, between-at, between-back, between-end, between-field, between-head, between-heads, alone-field, alone-near, alone-end, joined-field, joined-next, joined-prev, joined-first, joined-last, joined-first-kept, joined-last-kept}
 use Rattle.wavl.specs.Lists.{All, In, Differ, Once}
 use Rattle.wavl.specs.Entry.{Entry, slots}

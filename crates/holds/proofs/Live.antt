@@ -11,7 +11,7 @@ use borrow.Author.Tests.{le-ltb, eq-eqb, ne-eqb, le-leb, lt-leb}
 use Rattle.handle.specs.declared.Handle as H
 use Rattle.arena.specs.Words.{field, RANK, GENERATION}
 use Rattle.arena.specs.Keys.{signed}
-use Rattle.arena.specs.Entries.{isLive, entryOf}
+use Rattle.arena.specs.inner.Entries.{isLive, entryOf}
 use Rattle.wavl.specs.Lists.{In}
 use Rattle.wavl.specs.Entry.{Entry}
 use Rattle.wavl.specs.Tree.{Tree, fork, inorder}

@@ -11,7 +11,7 @@ use lib.Dec.{lit<}
 use Rattle.arena.specs.Words.{Room, fields, field, put, LEFT, RIGHT, RANK, BACK}
 use Rattle.arena.proofs.Laws.{length-put, field-same, field-off}
 use Rattle.chain.proofs.Keeps.{room-put}
-use Rattle.tree.specs.Links.{withBack, withNode}
+use Rattle.tree.specs.inner.Links.{withBack, withNode}
 use Rattle.wavl.specs.Entry.{Entry}
 use Rattle.wavl.specs.Tree.{Side, left, Tree, tip, fork, node}
 use Rattle.holds.specs.Ends.{topSlot, number}

@@ -5,35 +5,26 @@ use mathlib.Core.Path.{_≡_, refl}
 use mathlib.Core.List.{List}
 use native.Mathlib.Omega.{arith}
 use lib.ListN.{length, length-append}
-use Rattle.handle.specs.Numbers.{noSlot}
-use Rattle.arena.specs.Words.{Room, limit, topLimit}
+use Rattle.handle.specs.Numbers.{noSlot, limit}
+use Rattle.handle.proofs.Limits.{limit-fits}
+use Rattle.arena.specs.Words.{Room}
 use Rattle.wavl.specs.Lists.{All, In, Differ, Once}
 use Rattle.wavl.specs.Entry.{slots}
 use Rattle.wavl.specs.Tree.{size}
 use Rattle.wavl.proofs.Lists.{all-left, all-right, pairwise-across}
 use Rattle.wavl.proofs.Size.{size-length}
 use Rattle.rules.specs.Queue.{Queue, entries}
-use Rattle.rules.specs.Sound as Sound
 use Rattle.rules.specs.Sound.{freeSlots, usedSlots, Under, Sound}
 use Rattle.holds.specs.Holds.{Holds, Words}
 use Rattle.holds.proofs.Counting.{at-most, length-slots, length-freeSlots}
-
--- crates `rules` and `arena` name the same two limits
-pub same-limit : Sound.limit ≡ limit
-unfolding Sound.limit
-same-limit = refl
-
-pub same-topLimit : Sound.topLimit ≡ topLimit
-unfolding Sound.topLimit
-same-topLimit = refl
 
 pub sound-of : {s : List ℕ} {q : Queue} → Holds s q → Sound q
 sound-of h = record {
   in-range = record {
     capacity-from = h .header .passes .some;
-    capacity-to = rw same-limit (h .header .passes .few);
+    capacity-to = h .header .passes .few;
     top-from = h .rule-6 .top-from;
-    top-to = rw same-topLimit (h .rule-6 .top-to);
+    top-to = h .rule-6 .top-to;
   };
   ranked = h .rule-2;
   rising = h .rule-4;
@@ -64,7 +55,7 @@ holds-of d w = record {
   rule-5 = record { apart = d .apart; within = d .within; free = w .free; retired = w .retired };
   rule-6 = record {
     top-from = d .in-range .top-from;
-    top-to = rw same-topLimit at (d .in-range .top-to);
+    top-to = d .in-range .top-to;
     live = d .live-generations;
     free = d .free-generations;
   };
@@ -74,7 +65,7 @@ holds-of d w = record {
 
 -- what a capacity is never above, and the room for it
 pub few-slots : {s : List ℕ} {q : Queue} → Words s q → q .capacity ≤ noSlot
-few-slots w = let h : _ ≤ limit = w .header .passes .few in omega arith
+few-slots w = let h : _ ≤ limit = w .header .passes .few in let l = limit-fits in omega arith
 
 pub room-of : {s : List ℕ} {q : Queue} → Words s q → Room s (q .capacity)
 room-of w = w .header .passes .room
@@ -111,5 +102,6 @@ pub size-few : {q : Queue} → Sound q → size (q .tree) ≤ noSlot
 size-few {q} d =
     let h = used-few (separate-of d) in
     let e = size-length (q .tree) in
-    let f : q .capacity ≤ limit = rw same-limit at (d .in-range .capacity-to) in
+    let f : q .capacity ≤ limit = d .in-range .capacity-to in
+    let l = limit-fits in
     omega arith

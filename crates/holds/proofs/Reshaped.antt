@@ -13,7 +13,7 @@ use Rattle.rules.specs.Queue.{Queue, entries}
 use Rattle.rules.specs.Sound.{freeSlots, usedSlots}
 use Rattle.holds.specs.Links.{TreeWords}
 use Rattle.holds.specs.Holds.{HeaderWords, Words}
-use Rattle.holds.specs.Writes.{Only}
+use Rattle.holds.specs.inner.Writes.{Only}
 use Rattle.holds.proofs.Parts.{Separate, used-few, live-low, free-low, free-not-live}
 use Rattle.holds.proofs.Trees.{LinkOf}
 use Rattle.holds.proofs.Groups.{passing-stays, unused-stays, chain-stays, entries-stay, stack-stays, all-retired-stay}

@@ -9,7 +9,7 @@ use lib.ListN.{length}
 use Rattle.handle.specs.Numbers.{noSlot}
 use Rattle.arena.specs.Words.{field, head, KEY, LEFT, ROOT}
 use Rattle.find.specs.declared.Found as F
-use Rattle.find.specs.Seeking.{budget, sideOf, seekFrom, seekModel}
+use Rattle.find.specs.inner.Seeking.{budget, sideOf, seekFrom, seekModel}
 use Rattle.find.proofs.Laws.{side-less, side-greater, seek-empty, seek-root, seek-equal, seek-beside, seek-down}
 use Rattle.wavl.specs.Entry.{Entry}
 use Rattle.wavl.specs.Tree.{Side, left, right, Tree, tip, fork, rank, inorder}
@@ -28,7 +28,7 @@ use Rattle.holds.specs.Ends.{topSlot, number}
 use Rattle.holds.specs.Links.{Links}
 use Rattle.holds.specs.Entries.{EntryWords, AllEntries}
 use Rattle.holds.specs.Holds.{Holds}
-use Rattle.holds.specs.Meanings.{inSlots, sideNo, foundMeans}
+use Rattle.holds.specs.inner.Meanings.{inSlots, sideNo, foundMeans}
 use Rattle.holds.proofs.Parts.{sound-of, words-of, few-slots, size-few}
 use Rattle.holds.proofs.Live.{live-entry}
 

@@ -11,14 +11,14 @@ use lib.Dec.{lit<}
 use lib.ListN.{length}
 use Rattle.handle.specs.Numbers.{noSlot}
 use Rattle.arena.specs.Words.{Room, field, put, STACK, HEIGHT}
-use Rattle.arena.specs.Slots.{handleOf, foundAt, peekFrom, peekSlot, popped, takeSlot}
+use Rattle.arena.specs.inner.Slots.{handleOf, foundAt, peekFrom, peekSlot, popped, takeSlot}
 use Rattle.arena.specs.declared.slots.Taken as T
 use Rattle.arena.proofs.Laws.{length-put, field-same, head-same, field-putHead}
 use Rattle.wavl.specs.Lists.{All}
 use Rattle.rules.specs.Queue.{Handle}
 use Rattle.rules.specs.Sound.{freeSlots, Under}
 use Rattle.holds.specs.Free.{FreeStack}
-use Rattle.holds.specs.Writes.{Only}
+use Rattle.holds.specs.inner.Writes.{Only}
 use Rattle.holds.proofs.Writes.{only-trans, only-put, only-putHead}
 use Rattle.holds.proofs.Groups.{free-words-stay}
 

@@ -7,14 +7,14 @@ use mathlib.Core.List.{List}
 use native.Mathlib.Omega.{arith}
 use Rattle.handle.specs.Numbers.{noSlot}
 use Rattle.arena.specs.Words.{Room, LEFT, BACK}
-use Rattle.tree.specs.Links.{withBack, withNode}
+use Rattle.tree.specs.inner.Links.{withBack, withNode}
 use Rattle.wavl.specs.Entry.{Entry}
 use Rattle.wavl.specs.Tree.{Side, left, Tree, tip, fork, node}
 use Rattle.holds.specs.Ends.{topSlot, number}
 use Rattle.holds.specs.Links.{Links}
 use Rattle.holds.proofs.Has.{Has, Distinct, Apart, apart, has-top, has-near, has-far}
 use Rattle.holds.proofs.Trees.{number-small, closed, slot-low, Touch, carry, carry-node}
-use Rattle.holds.specs.Writes.{Only}
+use Rattle.holds.specs.inner.Writes.{Only}
 use Rattle.holds.proofs.Ways.{top-node}
 use Rattle.holds.proofs.Writes.{only-trans, only-back, only-node}
 use Rattle.holds.proofs.NodeWrites.{node-new, touch-node, touch-back, length-node, length-back, new-back}

@@ -7,13 +7,13 @@ use native.Mathlib.Omega.{arith}
 use lib.Dec.{lit<}
 use Rattle.handle.specs.Numbers.{noSlot}
 use Rattle.arena.specs.Words.{Room, put, LEFT, RIGHT, BACK}
-use Rattle.tree.specs.Links.{withBack, withNode}
+use Rattle.tree.specs.inner.Links.{withBack, withNode}
 use Rattle.chain.proofs.Keeps.{room-put}
 use Rattle.wavl.specs.Entry.{Entry}
 use Rattle.wavl.specs.Tree.{Side, Tree, node}
 use Rattle.holds.specs.Ends.{topSlot, number}
 use Rattle.holds.specs.Links.{Node, Links}
-use Rattle.holds.specs.Writes.{Only}
+use Rattle.holds.specs.inner.Writes.{Only}
 use Rattle.holds.proofs.Has.{Has, Distinct, Apart, apart, has-top, has-near, has-far, not-top}
 use Rattle.holds.proofs.Trees.{number-small, closed, Touch, carry, carry-node}
 use Rattle.holds.proofs.Ways.{top-node}

@@ -22,7 +22,7 @@ use Rattle.holds.specs.Ends.{firstSlot, lastSlot}
 use Rattle.holds.specs.Chain.{Chain, ChainWords}
 use Rattle.holds.specs.Entries.{EntryWords, AllEntries}
 use Rattle.holds.specs.Holds.{Words}
-use Rattle.holds.specs.Writes.{Only}
+use Rattle.holds.specs.inner.Writes.{Only}
 use Rattle.holds.proofs.Parts.{Separate, used-few, live-low, free-low, free-not-live, room-of}
 use Rattle.holds.proofs.Ways.{unplugged, plugged}
 use Rattle.holds.proofs.Writes.{only-put}

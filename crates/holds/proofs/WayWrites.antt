@@ -9,12 +9,12 @@ use borrow.Author.Tests.{lt-ltb, le-ltb, eq-eqb, ne-eqb}
 use Rattle.handle.specs.Numbers.{noSlot}
 use Rattle.arena.specs.Words.{Room, fields, put, head, putHead, LEFT, RIGHT, RANK, BACK, ROOT}
 use Rattle.arena.proofs.Laws.{field-same, field-off, field-slot, head-put, head-same, field-putHead}
-use Rattle.tree.specs.Links.{sideOf, withChild, relinked}
+use Rattle.tree.specs.inner.Links.{sideOf, withChild, relinked}
 use Rattle.wavl.specs.Tree.{left, right, Tree, node}
 use Rattle.wavl.specs.Way.{step, Way, plug}
 use Rattle.holds.specs.Ends.{topSlot, number}
 use Rattle.holds.specs.Links.{Links, TreeWords}
-use Rattle.holds.specs.Ways.{parent, sideIn, Hook, LinksWay}
+use Rattle.holds.specs.inner.Ways.{parent, sideIn, Hook, LinksWay}
 use Rattle.holds.proofs.Has.{Has, Distinct, apart, not-top}
 use Rattle.holds.proofs.Trees.{number-small, SameLinks, links-keep}
 use Rattle.holds.proofs.Ways.{Parted, unplugged, plugged, distinct-in, HasWay, above-apart}

@@ -10,7 +10,7 @@ use Rattle.wavl.specs.Tree.{Side, left, right, Tree, node}
 use Rattle.wavl.specs.Way.{step, Way, plug}
 use Rattle.holds.specs.Ends.{topSlot}
 use Rattle.holds.specs.Links.{Links, TreeWords}
-use Rattle.holds.specs.Ways.{parent, Hook, LinksWay}
+use Rattle.holds.specs.inner.Ways.{parent, Hook, LinksWay}
 use Rattle.holds.proofs.Has.{Has, Distinct, apart, has-top, has-near, has-far}
 use Rattle.holds.proofs.Trees.{opened, closed}
 

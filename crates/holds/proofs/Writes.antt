@@ -8,9 +8,9 @@ use native.Mathlib.Decide.{decLt}
 use borrow.Author.Tests.{lt-ltb, le-ltb}
 use Rattle.arena.specs.Words.{Room, headWords, fields, put, putHead, LEFT, RIGHT, RANK, BACK, ROOT}
 use Rattle.arena.proofs.Laws.{length-put, length-putHead, head-put, rest-put, head-other, field-putHead, rest-putHead}
-use Rattle.tree.specs.Links.{withBack, withChild, withNode}
+use Rattle.tree.specs.inner.Links.{withBack, withChild, withNode}
 use Rattle.chain.proofs.Keeps.{field-other}
-use Rattle.holds.specs.Writes.{Only}
+use Rattle.holds.specs.inner.Writes.{Only}
 
 module _ (cap : ℕ) (W : ℕ → ℕ → Type 0) (H : ℕ → Type 0) where
   pub only-none : (s : List ℕ) → Only s s cap W H

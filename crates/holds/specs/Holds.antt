@@ -4,7 +4,8 @@
 use Prim.Native.Nat.{ℕ, _≤_, _<_}
 use mathlib.Core.Path.{_≡_}
 use mathlib.Core.List.{List}
-use Rattle.arena.specs.Words.{topLimit, headWords, head, TOP, ROOT}
+use Rattle.handle.specs.Numbers.{topLimit}
+use Rattle.arena.specs.Words.{headWords, head, TOP, ROOT}
 use Rattle.arena.specs.Header.{Passing}
 use Rattle.wavl.specs.Lists.{All, Once}
 use Rattle.wavl.specs.Entry.{Rising}

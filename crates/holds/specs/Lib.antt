@@ -4,7 +4,5 @@ pub mod Chain
 pub mod Entries
 pub mod Free
 pub mod Holds
-pub mod Ways
 pub mod Handles
-pub mod Writes
-pub mod Meanings
+pub mod inner

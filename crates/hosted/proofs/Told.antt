@@ -13,7 +13,7 @@ use Rattle.remove.specs.declared.reading.Reading as R
 use Rattle.queue.specs.declared.looking.Searched as Q
 use Rattle.queue.specs.declared.cursor.Cursor.{Cursor}
 use Rattle.queue.specs.declared.cursor.Moved as M
-use Rattle.hosted.specs.Told.{Told, row, stores, looks, handleTold, entryTold, refusedTold, insertedTold, aheadTold, removedTold, readingTold, sideCode, searchedTold, movedTold}
+use Rattle.hosted.specs.inner.Told.{Told, row, stores, looks, handleTold, entryTold, refusedTold, insertedTold, aheadTold, removedTold, readingTold, sideCode, searchedTold, movedTold}
 
 -- a call that writes and a call that looks, by their answers
 pub by-stores : {A B : Type 0} (tell : A → B) (t : List ℕ) (r : A) (m : List ℕ × A) (x : B) → (t, r) ≡ m → x ≡ tell r → _≡_ {A = List ℕ × B} (t, x) (stores tell m)

@@ -1,7 +1,7 @@
 // Answers as numbers: a code, and a row of four numbers that the host lends. Each function is equal to its definition in
 // specs/Told.antt, whatever the row held.
 ghost use mathlib.Core.Path.{_≡_};
-ghost use Rattle.hosted.specs.Told.{row, handleTold, entryTold, refusedTold, laidOutTold, insertedTold, aheadTold, removedTold, readingTold, sideCode, searchedTold, movedTold};
+ghost use Rattle.hosted.specs.inner.Told.{row, handleTold, entryTold, refusedTold, laidOutTold, insertedTold, aheadTold, removedTold, readingTold, sideCode, searchedTold, movedTold};
 use arena::entries::Entry;
 use arena::keys;
 use arena::laying::LaidOut;

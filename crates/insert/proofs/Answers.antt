@@ -12,12 +12,12 @@ use Rattle.handle.specs.declared.Side.{Side}
 use Rattle.handle.specs.declared.Refusal.{Refusal}
 use Rattle.handle.specs.declared.Refusal as R
 use Rattle.arena.specs.Keys.{stored}
-use Rattle.arena.specs.Slots.{peekSlot, takenAs, takeSlot}
+use Rattle.arena.specs.inner.Slots.{peekSlot, takenAs, takeSlot}
 use Rattle.arena.specs.declared.slots.Taken.{Taken}
 use Rattle.arena.specs.declared.slots.Taken as T
-use Rattle.insert.specs.Ahead.{newAs, nextNew, lookedAhead, aheadNormal, aheadEmpty, aheadManual}
-use Rattle.insert.specs.Kinds.{preparedNormal, preparedEmpty, preparedManual}
-use Rattle.insert.specs.Place.{aloneAs, placedAlone, hungBelow, hungAs, besideAs, placedBeside, replaced, applied, insertNormal, insertEmpty, insertManual, asAhead}
+use Rattle.insert.specs.inner.Ahead.{newAs, nextNew, lookedAhead, aheadNormal, aheadEmpty, aheadManual}
+use Rattle.insert.specs.inner.Kinds.{preparedNormal, preparedEmpty, preparedManual}
+use Rattle.insert.specs.inner.Place.{aloneAs, placedAlone, hungBelow, hungAs, besideAs, placedBeside, replaced, applied, insertNormal, insertEmpty, insertManual, asAhead}
 use Rattle.insert.specs.declared.kinds.Prepared.{Prepared}
 use Rattle.insert.specs.declared.kinds.Prepared.the-variants.{Alone, Beside, Replace, Fail, NotSound}
 use Rattle.insert.specs.declared.place.Inserted.{Inserted}

@@ -8,13 +8,13 @@ use Rattle.handle.specs.Numbers.{noSlot}
 use Rattle.handle.specs.declared.Handle.{Handle}
 use Rattle.handle.specs.declared.Side.{Side}
 use Rattle.handle.specs.declared.Side as S
-use Rattle.arena.specs.Entries.{isLive}
+use Rattle.arena.specs.inner.Entries.{isLive}
 use Rattle.arena.specs.Words.{field, KEY, PREV}
 use Rattle.arena.proofs.Paths.{no-refusal}
-use Rattle.find.specs.Seeking.{FoundIn, seekModel}
+use Rattle.find.specs.inner.Seeking.{FoundIn, seekModel}
 use Rattle.find.specs.declared.Found.{Found}
 use Rattle.find.specs.declared.Found as F
-use Rattle.insert.specs.Kinds.{liesOn, preparedNormal, preparedEqual, placeBeside, besideNext, preparedBeside, preparedManual}
+use Rattle.insert.specs.inner.Kinds.{liesOn, preparedNormal, preparedEqual, placeBeside, besideNext, preparedBeside, preparedManual}
 use Rattle.insert.specs.declared.kinds.Prepared.{Prepared}
 use Rattle.insert.specs.declared.kinds.Prepared.the-variants.{Alone, Beside, Replace, Fail, NotSound}
 

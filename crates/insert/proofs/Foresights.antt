@@ -8,12 +8,12 @@ use Rattle.handle.specs.declared.Side.{Side}
 use Rattle.handle.specs.declared.Refusal.the-variants.{NotWithinCapacity, FailedOrdRequirement}
 use Rattle.handle.specs.declared.Refusal as R
 use Rattle.arena.specs.Keys.{stored}
-use Rattle.arena.specs.Slots.{handleOf, peekSlot}
+use Rattle.arena.specs.inner.Slots.{handleOf, peekSlot}
 use Rattle.arena.specs.Words.{field, GENERATION}
 use Rattle.arena.specs.declared.slots.Taken.{Taken}
 use Rattle.arena.specs.declared.slots.Taken as T
-use Rattle.insert.specs.Kinds.{PreparedIn, preparedNormal, preparedEmpty, preparedManual}
-use Rattle.insert.specs.Ahead.{nextNew, lookedAhead, aheadNormal, aheadEmpty, aheadManual}
+use Rattle.insert.specs.inner.Kinds.{PreparedIn, preparedNormal, preparedEmpty, preparedManual}
+use Rattle.insert.specs.inner.Ahead.{nextNew, lookedAhead, aheadNormal, aheadEmpty, aheadManual}
 use Rattle.insert.specs.declared.kinds.Prepared.{Prepared}
 use Rattle.insert.specs.declared.kinds.Prepared.the-variants.{Alone, Beside, Replace, Fail, NotSound}
 use Rattle.insert.specs.declared.ahead.Ahead.{Ahead}

@@ -7,16 +7,16 @@ use lib.Dec.{ltb, leb}
 use lib.IntN.{ℤ}
 use borrow.Author.Tests.{ltb-false, leb-false}
 use Rattle.arena.specs.Branch.{ifte}
-use Rattle.arena.specs.Entries.{entryPut}
-use Rattle.arena.specs.Slots.{handleOf, FoundIn, foundAt, peekFrom, peekSlot, popped, takenAs, TakenIn, takeSlot}
+use Rattle.arena.specs.inner.Entries.{entryPut}
+use Rattle.arena.specs.inner.Slots.{handleOf, FoundIn, foundAt, peekFrom, peekSlot, popped, takenAs, TakenIn, takeSlot}
 use Rattle.arena.specs.Words.{headWords, fields, field, put, head, putHead, KEY, GENERATION, VALUE, STACK, HEIGHT, FIRST, LAST, ROOT}
 use Rattle.arena.specs.declared.slots.Taken.{Taken}
 use Rattle.arena.specs.declared.slots.Taken as T
 use Rattle.arena.proofs.Laws.{length-put, length-putHead, field-off, head-put, rest-put, head-other, field-putHead, rest-putHead}
-use Rattle.chain.specs.Kept.{ChainOnly}
-use Rattle.tree.specs.Kept.{TreeOnly}
+use Rattle.chain.specs.inner.Kept.{ChainOnly}
+use Rattle.tree.specs.inner.Kept.{TreeOnly}
 use Rattle.tree.proofs.Keeps.{either}
-use Rattle.insert.specs.Kept.{Within}
+use Rattle.insert.specs.inner.Kept.{Within}
 
 pub within-refl : (s : List ℕ) (cap : ℕ) → Within s s cap
 within-refl s cap = record { long = refl; heads = λ h hh a b c d. refl; generations = λ j hj. refl; rest = λ k hk. refl }

@@ -12,23 +12,23 @@ use Rattle.handle.specs.declared.Handle.{Handle}
 use Rattle.handle.specs.declared.Side.{Side}
 use Rattle.handle.specs.declared.Side as S
 use Rattle.arena.specs.Branch.{ifte}
-use Rattle.arena.specs.Entries.{isLive}
+use Rattle.arena.specs.inner.Entries.{isLive}
 use Rattle.arena.specs.Keys.{stored}
-use Rattle.arena.specs.Slots.{TakenIn, takeSlot}
+use Rattle.arena.specs.inner.Slots.{TakenIn, takeSlot}
 use Rattle.arena.specs.Words.{field, head, KEY, LEFT, PREV, VALUE, ROOT}
 use Rattle.arena.specs.declared.slots.Taken.{Taken}
 use Rattle.arena.specs.declared.slots.Taken as T
-use Rattle.chain.specs.Links.{linkBeside}
+use Rattle.chain.specs.inner.Links.{linkBeside}
 use Rattle.chain.proofs.Laws.{alone-only, between-only}
-use Rattle.find.specs.Seeking.{FoundIn, seekModel}
+use Rattle.find.specs.inner.Seeking.{FoundIn, seekModel}
 use Rattle.find.specs.declared.Found.{Found}
 use Rattle.find.specs.declared.Found as F
 use Rattle.find.proofs.Laws.{found-in}
 use Rattle.tree.proofs.Keeps.{either, node-only, child-only}
 use Rattle.rebalance.proofs.Laws.{rebalanced-only}
-use Rattle.insert.specs.Kept.{Within}
-use Rattle.insert.specs.Kinds.{PreparedIn, asFound, preparedNormal, preparedEmpty, liesOn, preparedEqual, placeBeside, besideNext, preparedBeside, bySide, preparedManual}
-use Rattle.insert.specs.Place.{standAlone, aloneAs, placedAlone, hung, hungBelow, hungAs, besideAs, placedBeside, replaced, applied, insertNormal, insertEmpty, insertManual}
+use Rattle.insert.specs.inner.Kept.{Within}
+use Rattle.insert.specs.inner.Kinds.{PreparedIn, asFound, preparedNormal, preparedEmpty, liesOn, preparedEqual, placeBeside, besideNext, preparedBeside, bySide, preparedManual}
+use Rattle.insert.specs.inner.Place.{standAlone, aloneAs, placedAlone, hung, hungBelow, hungAs, besideAs, placedBeside, replaced, applied, insertNormal, insertEmpty, insertManual}
 use Rattle.insert.specs.declared.kinds.Prepared.{Prepared}
 use Rattle.insert.specs.declared.kinds.Prepared.the-variants.{Alone, Beside, Replace, Fail, NotSound}
 use Rattle.insert.proofs.Choices.{live-low}

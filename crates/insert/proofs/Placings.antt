@@ -9,12 +9,12 @@ use Rattle.handle.specs.declared.Side.{Side}
 use Rattle.handle.specs.declared.Refusal.the-variants.{NotWithinCapacity, FailedOrdRequirement}
 use Rattle.handle.specs.declared.Refusal as R
 use Rattle.arena.specs.Keys.{stored}
-use Rattle.arena.specs.Slots.{TakenIn, handleOf, takeSlot}
+use Rattle.arena.specs.inner.Slots.{TakenIn, handleOf, takeSlot}
 use Rattle.arena.specs.Words.{field, put, GENERATION, VALUE}
 use Rattle.arena.specs.declared.slots.Taken.{Taken}
 use Rattle.arena.specs.declared.slots.Taken as T
-use Rattle.insert.specs.Kinds.{preparedNormal, preparedEmpty, preparedManual}
-use Rattle.insert.specs.Place.{standAlone, placedAlone, hungBelow, placedBeside, replaced, applied, insertNormal, insertEmpty, insertManual}
+use Rattle.insert.specs.inner.Kinds.{preparedNormal, preparedEmpty, preparedManual}
+use Rattle.insert.specs.inner.Place.{standAlone, placedAlone, hungBelow, placedBeside, replaced, applied, insertNormal, insertEmpty, insertManual}
 use Rattle.insert.specs.declared.kinds.Prepared.{Prepared}
 use Rattle.insert.specs.declared.kinds.Prepared.the-variants.{Alone, Beside, Replace, Fail, NotSound}
 use Rattle.insert.specs.declared.place.Inserted.{Inserted}

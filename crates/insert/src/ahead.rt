@@ -4,9 +4,9 @@
 ghost use mathlib.Core.Path.{_≡_};
 ghost use Prim.Native.Nat.{_<_};
 ghost use Rattle.arena.specs.Words.{Room, field as fieldOf, GENERATION as GENERATION_OF};
-ghost use Rattle.arena.specs.Slots.{handleOf};
-ghost use Rattle.insert.specs.Kinds.{PreparedIn};
-ghost use Rattle.insert.specs.Ahead.{nextNew, lookedAhead, aheadNormal, aheadEmpty, aheadManual};
+ghost use Rattle.arena.specs.inner.Slots.{handleOf};
+ghost use Rattle.insert.specs.inner.Kinds.{PreparedIn};
+ghost use Rattle.insert.specs.inner.Ahead.{nextNew, lookedAhead, aheadNormal, aheadEmpty, aheadManual};
 use crate::kinds;
 use crate::kinds::Prepared;
 use arena::keys;

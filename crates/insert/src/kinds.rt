@@ -4,7 +4,7 @@
 ghost use mathlib.Core.Path.{_≡_};
 ghost use Prim.Native.Nat.{_<_, _≤_};
 ghost use Rattle.arena.specs.Words.{Room};
-ghost use Rattle.insert.specs.Kinds.{PreparedIn, preparedNormal, preparedEmpty, liesOn, preparedEqual, placeBeside, preparedBeside, preparedManual};
+ghost use Rattle.insert.specs.inner.Kinds.{PreparedIn, preparedNormal, preparedEmpty, liesOn, preparedEqual, placeBeside, preparedBeside, preparedManual};
 use arena::entries;
 use arena::words;
 use arena::words::KEY;

@@ -4,8 +4,8 @@
 ghost use mathlib.Core.Path.{_≡_};
 ghost use Prim.Native.Nat.{_<_, _≤_};
 ghost use Rattle.arena.specs.Words.{Room};
-ghost use Rattle.insert.specs.Kinds.{PreparedIn};
-ghost use Rattle.insert.specs.Place.{standAlone, placedAlone, hungBelow, placedBeside, replaced, applied, insertNormal, insertEmpty, insertManual};
+ghost use Rattle.insert.specs.inner.Kinds.{PreparedIn};
+ghost use Rattle.insert.specs.inner.Place.{standAlone, placedAlone, hungBelow, placedBeside, replaced, applied, insertNormal, insertEmpty, insertManual};
 use crate::ahead;
 use crate::kinds;
 use crate::kinds::Prepared;

@@ -6,7 +6,7 @@ use Prim.Native.Nat.{ℕ, _+_, _-_, _<_, _≤_}
 use Rattle.tree.specs.declared.Climbed.{Climbed}
 use Rattle.tree.specs.declared.Climbed.the-variants.{Done, Up, NotSound}
 use Rattle.tree.proofs.Climb.{left, none-left}
-use Rattle.lower.specs.Climb.{climbTurn, climbFrom}
+use Rattle.lower.specs.inner.Climb.{climbTurn, climbFrom}
 
 module _ (s : List ℕ) (cap p1 d n : ℕ) (r : List ℕ × Bool) (inv : climbFrom (64 - n) s cap p1 d ≡ r) where
   pub spent : 64 ≤ n → (s, false) ≡ r

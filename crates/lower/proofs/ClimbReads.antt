@@ -4,11 +4,11 @@ use mathlib.Core.Path.{_≡_}
 use mathlib.Core.List.{List}
 use borrow.Author.Tests.{lt-ltb, le-ltb, le-leb, lt-leb, eq-eqb, ne-eqb}
 use Rattle.arena.specs.Words.{field, put, LEFT, RIGHT, RANK, BACK}
-use Rattle.tree.specs.Links.{rankOf, sideOf, withBack, withNode, relinked, spreadWith}
+use Rattle.tree.specs.inner.Links.{rankOf, sideOf, withBack, withNode, relinked, spreadWith}
 use Rattle.tree.specs.declared.Climbed.{Climbed}
 use Rattle.tree.specs.declared.Climbed.the-variants.{Done, Up}
-use Rattle.lower.specs.Turns.{turnOnce, turnTwiceWith, turnTwice}
-use Rattle.lower.specs.Climb.{goUpTo, goUp, onward, lowerOne, lowerBoth, climbPastWith, climbPast, climbAtWith, climbAt, climbTurnWith, climbTurn}
+use Rattle.lower.specs.inner.Turns.{turnOnce, turnTwiceWith, turnTwice}
+use Rattle.lower.specs.inner.Climb.{goUpTo, goUp, onward, lowerOne, lowerBoth, climbPastWith, climbPast, climbAtWith, climbAt, climbTurnWith, climbTurn}
 
 -- the writes of a rotation, one after another
 module _ (s : List ℕ) (cap d p0 p1 p2 s0 a b ra rank1 : ℕ) (x y z w : List ℕ) where

@@ -6,14 +6,14 @@ use native.Mathlib.Omega.{arith}
 use lib.Dec.{ltb, leb, eqb}
 use borrow.Author.Tests.{ltb-true, leb-false}
 use Rattle.arena.specs.Words.{field, put, RANK, BACK}
-use Rattle.tree.specs.Links.{sideOf}
-use Rattle.tree.specs.Climb.{Standing}
-use Rattle.tree.specs.Kept.{TreeOnly}
+use Rattle.tree.specs.inner.Links.{sideOf}
+use Rattle.tree.specs.inner.Climb.{Standing}
+use Rattle.tree.specs.inner.Kept.{TreeOnly}
 use Rattle.tree.specs.declared.Climbed.the-variants.{Done, Up}
 use Rattle.tree.proofs.Climb.{Turned, turned-done, turned-bad, on-only}
 use Rattle.tree.proofs.Keeps.{either, only-refl, only-trans, only-put, side-small, back-only, relinked-only, node-only, spread-only}
-use Rattle.lower.specs.Turns.{turnOnce, turnTwiceWith, turnTwice}
-use Rattle.lower.specs.Climb.{goUpTo, goUp, onward, lowerOne, lowerBoth, climbPastWith, climbPast, climbAtWith, climbAt, climbTurnWith, climbTurn, climbFrom}
+use Rattle.lower.specs.inner.Turns.{turnOnce, turnTwiceWith, turnTwice}
+use Rattle.lower.specs.inner.Climb.{goUpTo, goUp, onward, lowerOne, lowerBoth, climbPastWith, climbPast, climbAtWith, climbAt, climbTurnWith, climbTurn, climbFrom}
 
 -- the rotations
 module _ (s : List ℕ) (cap d p0 p1 p2 s0 a b ra rank1 : ℕ) (h1 : p1 < cap) (hs : s0 < cap) (hd : d ≤ 1) where

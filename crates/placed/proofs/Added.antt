@@ -7,13 +7,13 @@ use borrow.Author.Tests.{le-ltb}
 use lib.IntN.{ℤ}
 use Rattle.handle.specs.Numbers.{noSlot}
 use Rattle.arena.specs.Keys.{stored}
-use Rattle.arena.specs.Entries.{entryPut}
-use Rattle.arena.specs.Slots.{handleOf, takeSlot}
+use Rattle.arena.specs.inner.Entries.{entryPut}
+use Rattle.arena.specs.inner.Slots.{handleOf, takeSlot}
 use Rattle.arena.specs.declared.slots.Taken as T
-use Rattle.tree.specs.Links.{withChild}
-use Rattle.chain.specs.Links.{linkAlone, linkBeside}
+use Rattle.tree.specs.inner.Links.{withChild}
+use Rattle.chain.specs.inner.Links.{linkAlone, linkBeside}
 use Rattle.chain.proofs.Laws.{alone-only}
-use Rattle.insert.specs.Place.{standAlone, placedAlone, hung, hungBelow, placedBeside}
+use Rattle.insert.specs.inner.Place.{standAlone, placedAlone, hung, hungBelow, placedBeside}
 use Rattle.insert.specs.declared.place.Inserted as I
 use Rattle.wavl.specs.Lists.{In}
 use Rattle.wavl.specs.Entry.{Entry, slots}

@@ -6,8 +6,8 @@ use mathlib.Core.Logic.{inl}
 use mathlib.Core.List.{List, [], _∷_, _++_, append-assoc}
 use Rattle.handle.specs.Numbers.{noSlot}
 use Rattle.arena.specs.Words.{Room, field, PREV}
-use Rattle.chain.specs.Links.{linkBeside}
-use Rattle.chain.specs.Kept.{ChainOnly}
+use Rattle.chain.specs.inner.Links.{linkBeside}
+use Rattle.chain.specs.inner.Kept.{ChainOnly}
 use Rattle.chain.proofs.Laws.{beside-is, between-only}
 use Rattle.wavl.specs.Lists.{In}
 use Rattle.wavl.specs.Entry.{Entry, slots}

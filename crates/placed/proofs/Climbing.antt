@@ -10,9 +10,9 @@ use lib.ListN.{length}
 use Rattle.handle.specs.Numbers.{noSlot}
 use Rattle.arena.specs.Words.{Room, put, RANK}
 use Rattle.arena.proofs.Laws.{length-put}
-use Rattle.tree.specs.Links.{sideOf}
+use Rattle.tree.specs.inner.Links.{sideOf}
 use Rattle.tree.specs.declared.Climbed.the-variants.{Done, Up}
-use Rattle.rebalance.specs.Ranks.{budget, raisedUp, fixTurn, climbFrom}
+use Rattle.rebalance.specs.inner.Ranks.{budget, raisedUp, fixTurn, climbFrom}
 use Rattle.rebalance.proofs.Fixes.{raise-up, raise-done}
 use Rattle.wavl.specs.Entry.{Entry}
 use Rattle.wavl.specs.Tree.{Side, Tree, node, rank}
@@ -22,7 +22,7 @@ use Rattle.wavl.proofs.Order.{IsFork, plug-same, node-same}
 use Rattle.wavl.proofs.Placed.{WayRanks}
 use Rattle.wavl.proofs.Rounds.{insert-stop, insert-raise, insert-turn}
 use Rattle.holds.specs.Ends.{topSlot, number}
-use Rattle.holds.specs.Ways.{parent}
+use Rattle.holds.specs.inner.Ways.{parent}
 use Rattle.holds.proofs.Trees.{opened}
 use Rattle.holds.proofs.Ways.{top-node, unplugged, distinct-in}
 use Rattle.holds.proofs.Writes.{only-none}

@@ -10,12 +10,12 @@ use lib.Dec.{lit<}
 use Rattle.handle.specs.Numbers.{noSlot}
 use Rattle.arena.specs.Words.{Room, fields, field, put, KEY, LEFT, BACK, PREV, NEXT, GENERATION, VALUE, STACK, FIRST, LAST, ROOT}
 use Rattle.arena.proofs.Laws.{length-put, field-same, field-off}
-use Rattle.tree.specs.Links.{withChild, withNode}
-use Rattle.chain.specs.Kept.{ChainOnly}
+use Rattle.tree.specs.inner.Links.{withChild, withNode}
+use Rattle.chain.specs.inner.Kept.{ChainOnly}
 use Rattle.wavl.specs.Lists.{In}
 use Rattle.wavl.specs.Entry.{Entry, slots}
 use Rattle.holds.specs.Ends.{firstSlot, lastSlot}
-use Rattle.holds.specs.Writes.{Only}
+use Rattle.holds.specs.inner.Writes.{Only}
 use Rattle.holds.proofs.Writes.{only-trans, only-put, only-node, only-child, only-weaken}
 use Rattle.holds.proofs.AnyDepth.{NoHead}
 use Rattle.holds.proofs.Linked.{Linked}

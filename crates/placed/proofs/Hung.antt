@@ -10,9 +10,9 @@ use lib.ListN.{length}
 use Rattle.handle.specs.Numbers.{noSlot}
 use Rattle.arena.proofs.Laws.{length-put}
 use Rattle.arena.specs.Words.{Room, field, put, KEY, LEFT, BACK, NEXT, GENERATION, VALUE, STACK, ROOT}
-use Rattle.arena.specs.Slots.{popped}
-use Rattle.tree.specs.Links.{withChild}
-use Rattle.chain.specs.Kept.{ChainOnly}
+use Rattle.arena.specs.inner.Slots.{popped}
+use Rattle.tree.specs.inner.Links.{withChild}
+use Rattle.chain.specs.inner.Kept.{ChainOnly}
 use Rattle.wavl.specs.Lists.{All, In, Differ, Once}
 use Rattle.wavl.specs.Entry.{Entry, slots}
 use Rattle.wavl.specs.Tree.{left, tip, leaf, inorder}
@@ -24,12 +24,12 @@ use Rattle.rules.specs.Sound.{freeSlots, usedSlots, Under}
 use Rattle.rules.proofs.Lists.{all-put, slots-put, in-put}
 use Rattle.holds.specs.Ends.{firstSlot, lastSlot}
 use Rattle.holds.specs.Links.{Links, TreeWords}
-use Rattle.holds.specs.Ways.{parent, sideIn}
+use Rattle.holds.specs.inner.Ways.{parent, sideIn}
 use Rattle.holds.specs.Chain.{ChainWords}
 use Rattle.holds.specs.Entries.{EntryWords, AllEntries}
 use Rattle.holds.specs.Free.{FreeStack, AllRetired}
 use Rattle.holds.specs.Holds.{HeaderWords, Words, Unused}
-use Rattle.holds.specs.Writes.{Only}
+use Rattle.holds.specs.inner.Writes.{Only}
 use Rattle.holds.proofs.Has.{Has, Distinct, has-cases}
 use Rattle.holds.proofs.Trees.{SameLinks, node-keep, number-small}
 use Rattle.holds.proofs.Ways.{HasWay, has-way}

@@ -12,8 +12,8 @@ use Rattle.handle.specs.Numbers.{noSlot}
 use Rattle.handle.specs.declared.Handle as H
 use Rattle.handle.specs.declared.Side as S
 use Rattle.arena.specs.Words.{field, KEY, LEFT, PREV}
-use Rattle.arena.specs.Entries.{isLive}
-use Rattle.insert.specs.Kinds.{liesOn, preparedEqual, placeBeside, besideNext, preparedBeside, preparedManual}
+use Rattle.arena.specs.inner.Entries.{isLive}
+use Rattle.insert.specs.inner.Kinds.{liesOn, preparedEqual, placeBeside, besideNext, preparedBeside, preparedManual}
 use Rattle.insert.specs.declared.kinds.Prepared.the-variants.{Fail}
 use Rattle.wavl.specs.Lists.{In}
 use Rattle.wavl.specs.Entry.{Entry}

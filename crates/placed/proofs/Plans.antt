@@ -8,9 +8,9 @@ use lib.IntN.{ℤ}
 use lib.ListN.{length}
 use Rattle.handle.specs.declared.Refusal as R
 use Rattle.arena.specs.Keys.{stored}
-use Rattle.insert.specs.Kept.{Within}
-use Rattle.insert.specs.Place.{applied}
-use Rattle.insert.specs.Ahead.{nextNew, lookedAhead}
+use Rattle.insert.specs.inner.Kept.{Within}
+use Rattle.insert.specs.inner.Place.{applied}
+use Rattle.insert.specs.inner.Ahead.{nextNew, lookedAhead}
 use Rattle.insert.specs.declared.kinds.Prepared.{Prepared}
 use Rattle.insert.specs.declared.kinds.Prepared.the-variants.{Alone, Beside, Replace, Fail}
 use Rattle.wavl.specs.Entry.{Entry}

@@ -7,14 +7,14 @@ use native.Mathlib.Omega.{arith}
 use borrow.Author.Tests.{eq-eqb, ne-eqb}
 use Rattle.handle.specs.Numbers.{noSlot}
 use Rattle.arena.specs.Words.{head, ROOT}
-use Rattle.insert.specs.Kinds.{asFound, preparedNormal, preparedEmpty}
+use Rattle.insert.specs.inner.Kinds.{asFound, preparedNormal, preparedEmpty}
 use Rattle.wavl.specs.Tree.{Tree, tip, fork}
 use Rattle.wavl.specs.Way.{step, Place, place, plug}
 use Rattle.wavl.specs.Search.{search, answer}
 use Rattle.wavl.proofs.Found.{Searched, search-right}
 use Rattle.rules.specs.Queue.{Queue}
 use Rattle.rules.specs.Insert.{placeNormal, insertNormal, placeEmpty, insertEmpty}
-use Rattle.holds.specs.Meanings.{inSlots}
+use Rattle.holds.specs.inner.Meanings.{inSlots}
 use Rattle.holds.specs.Holds.{Holds}
 use Rattle.holds.proofs.Parts.{words-of, few-slots}
 use Rattle.holds.proofs.Seeks.{seek-is}

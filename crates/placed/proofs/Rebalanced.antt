@@ -9,7 +9,7 @@ use lib.ListN.{length}
 use Rattle.handle.specs.Numbers.{noSlot}
 use Rattle.arena.specs.Words.{Room, field, put, RANK}
 use Rattle.arena.proofs.Laws.{length-put}
-use Rattle.rebalance.specs.Ranks.{budget, climbedAbove, rebalanced}
+use Rattle.rebalance.specs.inner.Ranks.{budget, climbedAbove, rebalanced}
 use Rattle.rebalance.proofs.Fixes.{top-reached, rank-fits, rank-raised, climbs as climb-starts}
 use Rattle.wavl.specs.Entry.{Entry}
 use Rattle.wavl.specs.Tree.{Side, Tree, tip, node, leaf, size}
@@ -21,7 +21,7 @@ use Rattle.wavl.proofs.Placed.{WayRanks, unplug-ranks}
 use Rattle.wavl.proofs.Size.{rank-le-31}
 use Rattle.wavl.proofs.Rounds.{insert-first-stop, insert-first-up, insert-root}
 use Rattle.holds.specs.Ends.{number}
-use Rattle.holds.specs.Ways.{parent}
+use Rattle.holds.specs.inner.Ways.{parent}
 use Rattle.holds.proofs.Trees.{LinkOf, opened}
 use Rattle.holds.proofs.Ways.{top-node, unplugged, distinct-in}
 use Rattle.holds.proofs.Writes.{only-none}

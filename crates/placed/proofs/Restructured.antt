@@ -7,8 +7,8 @@ use native.Mathlib.Omega.{arith}
 use Rattle.handle.specs.Numbers.{noSlot}
 use lib.Dec.{lit<}
 use Rattle.arena.specs.Words.{Room, field, put, LEFT, RANK, BACK}
-use Rattle.tree.specs.Links.{spreadWith}
-use Rattle.rebalance.specs.Turns.{liftedOne, turnedSame, spreadBelow, turnedAcross}
+use Rattle.tree.specs.inner.Links.{spreadWith}
+use Rattle.rebalance.specs.inner.Turns.{liftedOne, turnedSame, spreadBelow, turnedAcross}
 use Rattle.wavl.specs.Entry.{Entry, slots}
 use Rattle.wavl.specs.Tree.{Side, left, right, Tree, tip, fork, node, rank, inorder}
 use Rattle.wavl.specs.Way.{Way, plug}
@@ -17,7 +17,7 @@ use Rattle.wavl.specs.Lists.{In}
 use Rattle.wavl.proofs.Order.{IsFork, node-same, restructure-same}
 use Rattle.holds.specs.Ends.{topSlot, number}
 use Rattle.holds.specs.Links.{Links, TreeWords}
-use Rattle.holds.specs.Ways.{parent}
+use Rattle.holds.specs.inner.Ways.{parent}
 use Rattle.holds.proofs.Has.{Has, Distinct, has-top}
 use Rattle.holds.proofs.Trees.{LinkOf, opened}
 use Rattle.holds.proofs.Ways.{top-node, unplugged, distinct-in}

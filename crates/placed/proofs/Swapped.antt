@@ -5,8 +5,8 @@ use mathlib.Core.Path.{_≡_, refl, ap}
 use mathlib.Core.List.{List}
 use Rattle.handle.specs.Numbers.{refusalNumber}
 use Rattle.handle.specs.declared.Refusal.{Refusal}
-use Rattle.insert.specs.Kept.{Within}
-use Rattle.insert.specs.Place.{replaced}
+use Rattle.insert.specs.inner.Kept.{Within}
+use Rattle.insert.specs.inner.Place.{replaced}
 use Rattle.insert.specs.declared.place.Inserted as I
 use Rattle.wavl.specs.Entry.{Entry}
 use Rattle.wavl.specs.Tree.{Tree, fork}

@@ -8,9 +8,9 @@ use lib.IntN.{ℤ}
 use Rattle.handle.specs.declared.Handle.{Handle}
 use Rattle.handle.specs.declared.Side.{Side}
 use Rattle.arena.specs.Keys.{stored}
-use Rattle.insert.specs.Kinds.{preparedNormal, preparedEmpty, preparedManual}
-use Rattle.insert.specs.Place.{insertNormal, insertEmpty, insertManual}
-use Rattle.insert.specs.Ahead.{aheadNormal, aheadEmpty, aheadManual}
+use Rattle.insert.specs.inner.Kinds.{preparedNormal, preparedEmpty, preparedManual}
+use Rattle.insert.specs.inner.Place.{insertNormal, insertEmpty, insertManual}
+use Rattle.insert.specs.inner.Ahead.{aheadNormal, aheadEmpty, aheadManual}
 use Rattle.insert.proofs.Laws.{insert-normal-within, insert-empty-within, insert-manual-within}
 use Rattle.rules.specs.Queue.{Queue}
 use Rattle.rules.specs.Insert as Rules

@@ -6,10 +6,10 @@ use mathlib.Core.List.{List}
 use native.Mathlib.Omega.{arith}
 use borrow.Author.Tests.{lt-ltb, le-ltb, lt-leb, eq-eqb, ne-eqb}
 use Rattle.handle.specs.Numbers.{noSlot}
-use Rattle.tree.specs.Links.{rankOf, sideOf}
+use Rattle.tree.specs.inner.Links.{rankOf, sideOf}
 use Rattle.tree.specs.declared.Climbed.{Climbed}
 use Rattle.tree.specs.declared.Climbed.the-variants.{Done}
-use Rattle.rebalance.specs.Ranks.{budget, raisedUp, fixWith, fixTurn}
+use Rattle.rebalance.specs.inner.Ranks.{budget, raisedUp, fixWith, fixTurn}
 use Rattle.rebalance.proofs.Fixes.{fix-reads, fix-same, fix-across}
 use Rattle.wavl.specs.Entry.{Entry}
 use Rattle.wavl.specs.Tree.{Side, left, right, Tree, tip, fork, node, rank}
@@ -17,7 +17,7 @@ use Rattle.wavl.specs.Way.{Way, plug}
 use Rattle.wavl.proofs.Order.{IsFork}
 use Rattle.holds.specs.Ends.{topSlot, number}
 use Rattle.holds.specs.Links.{Links, TreeWords}
-use Rattle.holds.specs.Ways.{parent}
+use Rattle.holds.specs.inner.Ways.{parent}
 use Rattle.holds.proofs.Has.{Has, Distinct, apart, has-top, not-top}
 use Rattle.holds.proofs.Trees.{opened, slot-low}
 use Rattle.holds.proofs.Ways.{unplugged}

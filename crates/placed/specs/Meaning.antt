@@ -5,7 +5,7 @@ use mathlib.Core.Path.{_≡_}
 use mathlib.Core.List.{List}
 use Rattle.handle.specs.Numbers.{refusalNumber}
 use Rattle.handle.specs.declared.Side as S
-use Rattle.insert.specs.Kept.{Within}
+use Rattle.insert.specs.inner.Kept.{Within}
 use Rattle.insert.specs.declared.place.Inserted as I
 use Rattle.insert.specs.declared.ahead.Ahead as A
 use Rattle.rules.specs.Queue.{Queue}

@@ -9,18 +9,18 @@ use Rattle.handle.specs.declared.Refusal.the-variants as R
 use Rattle.handle.specs.declared.Side.the-variants.{Less, Greater}
 use Rattle.arena.specs.Branch.{ifte}
 use Rattle.arena.specs.Header.{headerOf}
-use Rattle.arena.specs.Entries.{isLive}
+use Rattle.arena.specs.inner.Entries.{isLive}
 use Rattle.arena.specs.declared.header.Header.{Header}
 use Rattle.arena.specs.declared.header.Header.the-variants.{Passes, Fails}
 use Rattle.arena.proofs.Paths.{no-refusal}
 use Rattle.chain.specs.declared.Stepped.{Stepped}
 use Rattle.chain.specs.declared.Stepped.the-variants as C
-use Rattle.find.specs.Seeking.{seekModel, FoundIn}
+use Rattle.find.specs.inner.Seeking.{seekModel, FoundIn}
 use Rattle.find.specs.declared.Found.{Found}
 use Rattle.find.specs.declared.Found.the-variants as F
-use Rattle.queue.specs.Header.{onHeader}
-use Rattle.queue.specs.Looking.{handleAt, searched}
-use Rattle.queue.specs.Moving.{movedTo, cursorAt}
+use Rattle.queue.specs.inner.Header.{onHeader}
+use Rattle.queue.specs.inner.Looking.{handleAt, searched}
+use Rattle.queue.specs.inner.Moving.{movedTo, cursorAt}
 use Rattle.queue.specs.declared.looking.Searched.{Searched}
 use Rattle.queue.specs.declared.looking.Searched.the-variants as S
 use Rattle.queue.specs.declared.cursor.Moved.{Moved}

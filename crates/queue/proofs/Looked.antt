@@ -10,9 +10,9 @@ use Rattle.handle.specs.declared.Refusal.the-variants as R
 use Rattle.arena.specs.Branch.{ifte}
 use Rattle.arena.specs.Header.{headerOf}
 use Rattle.arena.specs.Keys.{stored}
-use Rattle.arena.specs.Entries.{isLive}
+use Rattle.arena.specs.inner.Entries.{isLive}
 use Rattle.arena.proofs.Theorems.{passes}
-use Rattle.chain.specs.Steps.{stepFrom, endOf}
+use Rattle.chain.specs.inner.Steps.{stepFrom, endOf}
 use Rattle.chain.specs.declared.Stepped as C
 use Rattle.wavl.specs.Tree.{Side, left, right}
 use Rattle.wavl.specs.Search.{equalTo, nearest, emptyTree, answer, search}
@@ -24,13 +24,13 @@ use Rattle.rules.specs.Look.{searchFor, first, last, stepSpot, stepTo}
 use Rattle.holds.specs.Ends.{number}
 use Rattle.holds.specs.Handles.{plain, isSpot}
 use Rattle.holds.specs.Holds.{Holds}
-use Rattle.holds.specs.Meanings.{inSlots, foundMeans, stepMeans}
+use Rattle.holds.specs.inner.Meanings.{inSlots, foundMeans, stepMeans}
 use Rattle.holds.proofs.Seeks.{seek-is, seek-means}
 use Rattle.holds.proofs.Chains.{first-means, last-means, step-means}
 use Rattle.holds.proofs.Live.{live-is, live-iff}
-use Rattle.queue.specs.Header.{onHeader}
-use Rattle.queue.specs.Looking.{handleAt, asSearched, searched, searchCall}
-use Rattle.queue.specs.Moving.{movedTo, cursorAt, startCall, standIn, standCall, stepIn, stepCall}
+use Rattle.queue.specs.inner.Header.{onHeader}
+use Rattle.queue.specs.inner.Looking.{handleAt, asSearched, searched, searchCall}
+use Rattle.queue.specs.inner.Moving.{movedTo, cursorAt, startCall, standIn, standCall, stepIn, stepCall}
 use Rattle.queue.specs.Readings.{searchMeans, movedMeans, standsBy, standAt}
 use Rattle.queue.specs.declared.cursor.Moved.the-variants as M
 

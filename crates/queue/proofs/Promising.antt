@@ -10,14 +10,14 @@ use Rattle.arena.specs.Laying.{Fresh, laid, layOut}
 use Rattle.arena.specs.declared.laying.LaidOut.{LaidOut}
 use Rattle.arena.specs.declared.laying.LaidOut.the-variants as L
 use Rattle.arena.proofs.Theorems.{laid-is, lays-out, refuses}
-use Rattle.chain.specs.Steps.{endOf}
-use Rattle.insert.specs.Kept.{Within}
-use Rattle.insert.specs.Place as I
-use Rattle.insert.specs.Ahead as A
+use Rattle.chain.specs.inner.Steps.{endOf}
+use Rattle.insert.specs.inner.Kept.{Within}
+use Rattle.insert.specs.inner.Place as I
+use Rattle.insert.specs.inner.Ahead as A
 use Rattle.insert.specs.declared.place.Inserted.{Inserted}
 use Rattle.insert.specs.declared.ahead.Ahead.{Ahead}
 use Rattle.insert.proofs.Laws.{insert-normal-within, insert-empty-within, insert-manual-within}
-use Rattle.remove.specs.Remove.{removeBy, readBy}
+use Rattle.remove.specs.inner.Remove.{removeBy, readBy}
 use Rattle.remove.specs.declared.removing.Removed.{Removed}
 use Rattle.remove.specs.declared.reading.Reading.{Reading}
 use Rattle.remove.proofs.Laws.{remove-kept}
@@ -25,10 +25,10 @@ use Rattle.holds.proofs.FreshQueue.{fresh-holds}
 use Rattle.placed.proofs.Theorems.{normal-means, normal-ahead, empty-means, empty-ahead, manual-means, manual-ahead}
 use Rattle.taken.proofs.Means.{remove-means, read-means}
 use Rattle.queue.specs.Promised.{LayOutPromise, InsertPromise, EmptyPromise, ManualPromise, AheadPromise, AheadEmptyPromise, AheadManualPromise, RemovePromise, ReadPromise, SearchPromise, FirstPromise, LastPromise, AtPromise, BackPromise, ForwardPromise}
-use Rattle.queue.specs.Looking.{searched, searchCall, readCall}
-use Rattle.queue.specs.Moving.{movedTo, startCall, standIn, standCall, stepIn, stepCall}
-use Rattle.queue.specs.Placing.{insertCall, emptyCall, manualCall, aheadCall, aheadEmptyCall, aheadManualCall}
-use Rattle.queue.specs.Taking.{removeCall}
+use Rattle.queue.specs.inner.Looking.{searched, searchCall, readCall}
+use Rattle.queue.specs.inner.Moving.{movedTo, startCall, standIn, standCall, stepIn, stepCall}
+use Rattle.queue.specs.inner.Placing.{insertCall, emptyCall, manualCall, aheadCall, aheadEmptyCall, aheadManualCall}
+use Rattle.queue.specs.inner.Taking.{removeCall}
 use Rattle.queue.specs.declared.looking.Searched.{Searched}
 use Rattle.queue.specs.declared.cursor.Moved.{Moved}
 use Rattle.queue.proofs.Keeping.{Keeps, writes, looks}

@@ -31,10 +31,10 @@ use Rattle.placed.specs.Meaning.{insertedMeans, aheadMeans, sideMeans}
 use Rattle.taken.specs.Meaning.{removedMeans, readMeans}
 use Rattle.queue.specs.Promises.{Writes, Looks}
 use Rattle.queue.specs.Readings.{searchMeans, movedMeans, standAt}
-use Rattle.queue.specs.Placing.{insertCall, emptyCall, manualCall, aheadCall, aheadEmptyCall, aheadManualCall}
-use Rattle.queue.specs.Taking.{removeCall}
-use Rattle.queue.specs.Looking.{searchCall, readCall}
-use Rattle.queue.specs.Moving.{startCall, standCall, stepCall}
+use Rattle.queue.specs.inner.Placing.{insertCall, emptyCall, manualCall, aheadCall, aheadEmptyCall, aheadManualCall}
+use Rattle.queue.specs.inner.Taking.{removeCall}
+use Rattle.queue.specs.inner.Looking.{searchCall, readCall}
+use Rattle.queue.specs.inner.Moving.{startCall, standCall, stepCall}
 use Rattle.queue.specs.declared.looking.Searched.{Searched}
 use Rattle.queue.specs.declared.looking.Searched.the-variants as S
 use Rattle.queue.specs.declared.cursor.Moved.{Moved}

@@ -4,7 +4,7 @@ ghost use mathlib.Core.Path.{_≡_};
 ghost use Prim.Native.Nat.{_≤_};
 ghost use Rattle.arena.specs.Words.{Room};
 ghost use Rattle.queue.specs.Promised.{FirstPromise, LastPromise, AtPromise, BackPromise, ForwardPromise};
-ghost use Rattle.queue.specs.Moving.{movedTo, startCall, stepIn, stepCall};
+ghost use Rattle.queue.specs.inner.Moving.{movedTo, startCall, stepIn, stepCall};
 use arena::entries;
 use arena::header;
 use arena::header::Header;

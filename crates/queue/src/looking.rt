@@ -3,7 +3,7 @@
 ghost use mathlib.Core.Path.{_≡_};
 ghost use Rattle.arena.specs.Words.{Room};
 ghost use Rattle.queue.specs.Promised.{SearchPromise, ReadPromise};
-ghost use Rattle.queue.specs.Looking.{searched, handleAt};
+ghost use Rattle.queue.specs.inner.Looking.{searched, handleAt};
 ghost use Prim.Native.Nat.{_<_};
 use arena::header;
 use arena::header::Header;

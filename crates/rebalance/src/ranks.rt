@@ -4,8 +4,8 @@
 ghost use mathlib.Core.Path.{_≡_};
 ghost use Prim.Native.Nat.{_<_, _≤_};
 ghost use Rattle.arena.specs.Words.{Room};
-ghost use Rattle.tree.specs.Climb.{Standing};
-ghost use Rattle.rebalance.specs.Ranks.{budget, raisedUp, fixTurn, climbFrom, climbedAbove, rebalanced};
+ghost use Rattle.tree.specs.inner.Climb.{Standing};
+ghost use Rattle.rebalance.specs.inner.Ranks.{budget, raisedUp, fixTurn, climbFrom, climbedAbove, rebalanced};
 use crate::turns;
 use arena::words;
 use arena::words::BACK;

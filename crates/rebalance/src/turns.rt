@@ -4,7 +4,7 @@
 ghost use mathlib.Core.Path.{_≡_};
 ghost use Prim.Native.Nat.{_<_, _≤_};
 ghost use Rattle.arena.specs.Words.{Room};
-ghost use Rattle.rebalance.specs.Turns.{liftedOne, turnedSame, spreadBelow, turnedAcross};
+ghost use Rattle.rebalance.specs.inner.Turns.{liftedOne, turnedSame, spreadBelow, turnedAcross};
 use arena::words;
 use arena::words::BACK;
 use arena::words::LEFT;

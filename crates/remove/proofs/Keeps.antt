@@ -5,11 +5,11 @@ use mathlib.Core.List.{List}
 use native.Mathlib.Omega.{arith}
 use Rattle.arena.specs.Words.{fields, put, putHead, KEY, LEFT, RIGHT, RANK, BACK, PREV, NEXT, GENERATION, VALUE, STACK, HEIGHT}
 use Rattle.arena.specs.Laying.{unlinked, blankOf}
-use Rattle.arena.specs.Slots.{pushed}
+use Rattle.arena.specs.inner.Slots.{pushed}
 use Rattle.arena.proofs.Laws.{length-put, length-putHead, field-slot, field-off, head-put, rest-put, head-other, field-putHead, rest-putHead}
-use Rattle.chain.specs.Kept.{ChainOnly}
-use Rattle.tree.specs.Kept.{TreeOnly}
-use Rattle.remove.specs.Kept.{OthersKept}
+use Rattle.chain.specs.inner.Kept.{ChainOnly}
+use Rattle.tree.specs.inner.Kept.{TreeOnly}
+use Rattle.remove.specs.inner.Kept.{OthersKept}
 
 pub kept-refl : (s : List ℕ) (cap i : ℕ) → OthersKept s s cap i
 kept-refl s cap i =

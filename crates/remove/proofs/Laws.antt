@@ -10,21 +10,21 @@ use Rattle.handle.specs.Numbers.{noSlot}
 use Rattle.handle.specs.declared.Handle.{Handle}
 use Rattle.handle.specs.declared.Refusal.the-variants.{InvalidPtr}
 use Rattle.arena.specs.Words.{field, head, BACK, PREV, NEXT, GENERATION, TOP, HEIGHT}
-use Rattle.arena.specs.Entries.{isLive}
-use Rattle.arena.specs.Slots.{freeWith, freeSlot}
+use Rattle.arena.specs.inner.Entries.{isLive}
+use Rattle.arena.specs.inner.Slots.{freeWith, freeSlot}
 use Rattle.arena.specs.declared.slots.Freed.{Freed}
-use Rattle.chain.specs.Links.{joined, unlinkSlot}
+use Rattle.chain.specs.inner.Links.{joined, unlinkSlot}
 use Rattle.chain.proofs.Laws.{joined-only}
-use Rattle.tree.specs.Links.{sideOf}
-use Rattle.tree.specs.Kept.{TreeOnly}
+use Rattle.tree.specs.inner.Links.{sideOf}
+use Rattle.tree.specs.inner.Kept.{TreeOnly}
 use Rattle.tree.proofs.Keeps.{either, only-refl, only-trans, side-small, back-only, child-only, relinked-only, node-only}
-use Rattle.lower.specs.Climb.{lowerOne}
+use Rattle.lower.specs.inner.Climb.{lowerOne}
 use Rattle.tree.proofs.Climb.{Settled, on-only}
 use Rattle.lower.proofs.Laws.{lower-only, climb-only}
-use Rattle.remove.specs.Lift.{sideUnder, hungUp, liftWith, liftOut, standing, replaced}
-use Rattle.remove.specs.Take.{isChildless, settleBare, settleAt, replacementOf, filledFrom, filledBy, closedFrom, takeOver, takeOut}
-use Rattle.remove.specs.Remove.{letGo, removeLive, removeBy}
-use Rattle.remove.specs.Kept.{OthersKept}
+use Rattle.remove.specs.inner.Lift.{sideUnder, hungUp, liftWith, liftOut, standing, replaced}
+use Rattle.remove.specs.inner.Take.{isChildless, settleBare, settleAt, replacementOf, filledFrom, filledBy, closedFrom, takeOver, takeOut}
+use Rattle.remove.specs.inner.Remove.{letGo, removeLive, removeBy}
+use Rattle.remove.specs.inner.Kept.{OthersKept}
 use Rattle.remove.specs.declared.lifting.Lifted.{Lifted}
 use Rattle.remove.specs.declared.removing.Removed.{Removed}
 use Rattle.remove.specs.declared.removing.Removed as D

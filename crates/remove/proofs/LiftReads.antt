@@ -3,8 +3,8 @@ use Prim.Native.Nat.{ℕ}
 use mathlib.Core.Path.{_≡_}
 use mathlib.Core.List.{List}
 use Rattle.arena.specs.Words.{field, LEFT, RIGHT, RANK, BACK}
-use Rattle.tree.specs.Links.{withBack, withChild, withNode, relinked}
-use Rattle.remove.specs.Lift.{onlyChild, sideUnder, hungUp, liftWith, liftOut, standing, replaced}
+use Rattle.tree.specs.inner.Links.{withBack, withChild, withNode, relinked}
+use Rattle.remove.specs.inner.Lift.{onlyChild, sideUnder, hungUp, liftWith, liftOut, standing, replaced}
 use Rattle.remove.specs.declared.lifting.Lifted.{Lifted}
 
 pub lift-steps : (s : List ℕ) (cap m c q e : ℕ) (x y : List ℕ) (r : Lifted) → c ≡ onlyChild s cap m → q ≡ field s cap m BACK → e ≡ sideUnder s cap q m

@@ -7,16 +7,16 @@ use lib.Dec.{leb}
 use borrow.Author.Tests.{leb-false}
 use Rattle.handle.specs.declared.Handle.{Handle}
 use Rattle.handle.specs.declared.Refusal as R
-use Rattle.arena.specs.Entries.{isLive, entryOf}
-use Rattle.arena.specs.Slots.{freeSlot}
+use Rattle.arena.specs.inner.Entries.{isLive, entryOf}
+use Rattle.arena.specs.inner.Slots.{freeSlot}
 use Rattle.arena.specs.declared.entries.Entry.{Entry}
 use Rattle.arena.specs.declared.slots.Freed.{Freed}
 use Rattle.arena.specs.declared.slots.Freed as F
 use Rattle.arena.proofs.Paths.{no-refusal, tested}
-use Rattle.chain.specs.Links.{unlinkSlot}
+use Rattle.chain.specs.inner.Links.{unlinkSlot}
 use Rattle.chain.specs.declared.Neighbours.{Neighbours}
-use Rattle.remove.specs.Take.{takeOut}
-use Rattle.remove.specs.Remove.{letGo, removeLive, readBy}
+use Rattle.remove.specs.inner.Take.{takeOut}
+use Rattle.remove.specs.inner.Remove.{letGo, removeLive, readBy}
 use Rattle.remove.specs.declared.removing.Removed.{Removed}
 use Rattle.remove.specs.declared.removing.Removed as D
 use Rattle.remove.specs.declared.reading.Reading as Q

@@ -9,9 +9,9 @@ use Rattle.handle.specs.Numbers.{noSlot}
 use Rattle.arena.specs.Words.{field, LEFT, RIGHT}
 use Rattle.tree.specs.declared.Climbed.{Climbed}
 use Rattle.tree.specs.declared.Climbed.the-variants.{Done, Up, NotSound}
-use Rattle.lower.specs.Climb.{lowerOne, climbFrom}
-use Rattle.remove.specs.Lift.{liftOut, replaced}
-use Rattle.remove.specs.Take.{isChildless, settleBare, settleAt, replacementOf, filledFrom, filledBy, closedFrom, takeOver, takeOut}
+use Rattle.lower.specs.inner.Climb.{lowerOne, climbFrom}
+use Rattle.remove.specs.inner.Lift.{liftOut, replaced}
+use Rattle.remove.specs.inner.Take.{isChildless, settleBare, settleAt, replacementOf, filledFrom, filledBy, closedFrom, takeOver, takeOut}
 use Rattle.remove.specs.declared.lifting.Lifted.{Lifted}
 
 pub childless-asks : (s : List ℕ) (cap i l r : ℕ) (t : Bool) → l ≡ field s cap i LEFT → l ≡ noSlot → r ≡ field s cap i RIGHT → t ≡ eqb r noSlot

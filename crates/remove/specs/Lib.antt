@@ -1,4 +1,1 @@
-pub mod Lift
-pub mod Take
-pub mod Remove
-pub mod Kept
+pub mod inner

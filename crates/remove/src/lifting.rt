@@ -4,7 +4,7 @@
 ghost use mathlib.Core.Path.{_≡_};
 ghost use Prim.Native.Nat.{_<_, _≤_};
 ghost use Rattle.arena.specs.Words.{Room};
-ghost use Rattle.remove.specs.Lift.{onlyChild, sideUnder, liftOut, standing, replaced};
+ghost use Rattle.remove.specs.inner.Lift.{onlyChild, sideUnder, liftOut, standing, replaced};
 use arena::words;
 use arena::words::BACK;
 use arena::words::LEFT;

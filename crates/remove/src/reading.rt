@@ -2,7 +2,7 @@
 // From the Rust: get of ord/simple_ord_arena.rs.
 ghost use mathlib.Core.Path.{_≡_};
 ghost use Rattle.arena.specs.Words.{Room};
-ghost use Rattle.remove.specs.Remove.{readBy};
+ghost use Rattle.remove.specs.inner.Remove.{readBy};
 use arena::entries;
 use arena::entries::Entry;
 use handle::Handle;

@@ -4,7 +4,7 @@
 ghost use mathlib.Core.Path.{_≡_};
 ghost use Prim.Native.Nat.{_<_};
 ghost use Rattle.arena.specs.Words.{Room};
-ghost use Rattle.remove.specs.Remove.{letGo, removeLive, removeBy};
+ghost use Rattle.remove.specs.inner.Remove.{letGo, removeLive, removeBy};
 use crate::taking;
 use arena::entries;
 use arena::entries::Entry;

@@ -4,7 +4,7 @@
 ghost use mathlib.Core.Path.{_≡_};
 ghost use Prim.Native.Nat.{_<_, _≤_};
 ghost use Rattle.arena.specs.Words.{Room};
-ghost use Rattle.remove.specs.Take.{isChildless, settleBare, settleAt, replacementOf, filledBy, takeOut};
+ghost use Rattle.remove.specs.inner.Take.{isChildless, settleBare, settleAt, replacementOf, filledBy, takeOut};
 use crate::lifting;
 use arena::words;
 use arena::words::LEFT;

@@ -12,8 +12,8 @@ use Rattle.wavl.proofs.Lists.{all-left, all-in, in-slots, in-middle, slots-appe
 use Rattle.rules.specs.Queue.{Handle, entryWith, Queue, entries, Names}
 use Rattle.rules.specs.Remove.{freed, noteOf}
 use Rattle.rules.specs.Sound.{freeSlots, Sound}
-use Rattle.rules.specs.Changes.{Adds, Swaps, Takes}
-use Rattle.rules.specs.Handles.{HandleGiven, HandleKept, HandleGone, FreedBy}
+use Rattle.rules.specs.inner.Changes.{Adds, Swaps, Takes}
+use Rattle.rules.specs.inner.Handles.{HandleGiven, HandleKept, HandleGone, FreedBy}
 use Rattle.rules.proofs.Lists.{in-put, in-drop, once-differ, slots-put}
 use Rattle.rules.proofs.Removing.{live-once}
 

@@ -7,7 +7,8 @@ use Prim.Native.Nat.{ℕ}
 use Rattle.wavl.proofs.Order.{choose-cases}
 use Rattle.rules.specs.Queue.{Queue, fresh}
 use Rattle.rules.specs.Answers.{badLayout}
-use Rattle.rules.specs.Sound.{InRange, Sound}
+use Rattle.handle.specs.Numbers.{InRange}
+use Rattle.rules.specs.Sound.{Sound}
 use Rattle.rules.specs.LayOut.{LaidOut, laidOut, notLaidOut, Ranges, decRanges, layOut}
 use Rattle.rules.specs.Calls.{Call, normal, onEmpty, manual, lookNormal, lookEmpty, lookManual, removal, reading, searching, toFirst, toLast, toNext, toPrev, answer, run}
 use Rattle.rules.proofs.Removing.{remove-sound}

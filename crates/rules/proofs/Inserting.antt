@@ -20,7 +20,7 @@ use Rattle.rules.specs.Queue.{Handle, entryWith, Queue, entries}
 use Rattle.rules.specs.Answers.{Inserted}
 use Rattle.rules.specs.Insert.{addWith, addAt, swapAt, keyed, Beside, Between}
 use Rattle.rules.specs.Sound.{Sound}
-use Rattle.rules.specs.Changes.{Adds, Swaps, AfterInserting}
+use Rattle.rules.specs.inner.Changes.{Adds, Swaps, AfterInserting}
 use Rattle.rules.proofs.Kept.{sound-adds, sound-swaps}
 use Rattle.rules.proofs.Places.{smallerOf, greaterOf, entries-around}
 

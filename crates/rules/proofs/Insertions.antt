@@ -17,7 +17,7 @@ use Rattle.rules.specs.Answers.{notInserted, failedOrdRequirement}
 use Rattle.rules.specs.Place.{Spot, nowhere, spot, spotOf}
 use Rattle.rules.specs.Insert.{Where, less, equal, greater, keyed, addBeside, placeNormal, insertNormal, placeEmpty, insertEmpty, placeManual, insertManual}
 use Rattle.rules.specs.Sound.{Sound}
-use Rattle.rules.specs.Changes.{AfterInserting}
+use Rattle.rules.specs.inner.Changes.{AfterInserting}
 use Rattle.rules.proofs.Places.{entries-around, SpotIs}
 use Rattle.rules.proofs.Removing.{sound-spot}
 use Rattle.rules.proofs.Inserting.{Inserts, FitsAt, add-at, swap-at, between-sides}

@@ -12,8 +12,9 @@ use Rattle.wavl.specs.Ranks.{Ranked}
 use Rattle.wavl.proofs.Lists.{all-map, slots-append}
 use Rattle.rules.specs.Queue.{Handle, entryWith, Queue, freshFrom, fresh, entries}
 use Rattle.rules.specs.Remove.{freed}
-use Rattle.rules.specs.Sound.{InRange, freeSlots, usedSlots, Under, LiveGeneration, FreeGeneration, Sound}
-use Rattle.rules.specs.Changes.{SameHeader, Adds, Swaps, Takes}
+use Rattle.handle.specs.Numbers.{InRange}
+use Rattle.rules.specs.Sound.{freeSlots, usedSlots, Under, LiveGeneration, FreeGeneration, Sound}
+use Rattle.rules.specs.inner.Changes.{SameHeader, Adds, Swaps, Takes}
 use Rattle.rules.proofs.Lists.{all-put, all-drop, all-at, once-drop, once-move, all-move, slots-put}
 
 -- live and free slots of a chain and a free list

@@ -17,7 +17,7 @@ use Rattle.rules.specs.Answers.{Removed}
 use Rattle.rules.specs.Place.{Spot, nowhere, spot, spotOf}
 use Rattle.rules.specs.Remove.{removeSpot, remove}
 use Rattle.rules.specs.Sound.{freeSlots, Sound}
-use Rattle.rules.specs.Changes.{Takes, AfterRemoving}
+use Rattle.rules.specs.inner.Changes.{Takes, AfterRemoving}
 use Rattle.rules.proofs.Kept.{sound-takes}
 use Rattle.rules.proofs.Places.{smallerOf, greaterOf, entries-around, SpotIs, spot-is}
 

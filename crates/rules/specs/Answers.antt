@@ -1,27 +1,29 @@
 -- What a call answers (document 01, "When the queue says no", and the answers named in the sections after it).
 -- A reader may rely on this: each answer carries the values that document 01 names, and a refusal its number alone.
 use Prim.Native.Nat.{ℕ}
+use Rattle.handle.specs.Numbers.{refusalNumber}
+use Rattle.handle.specs.declared.Refusal.the-variants.{NotWithinCapacity, FailedOrdRequirement, InvalidPtr, BadLayout, NotSound, BadTime}
 use Rattle.wavl.specs.Tree.{Side}
 use Rattle.rules.specs.Queue.{Handle}
 
--- document 01's table of refusals
+-- document 01's table of refusals; the numbers stand in crate `handle`
 abbrev pub notWithinCapacity : ℕ
-notWithinCapacity = 1
+notWithinCapacity = refusalNumber NotWithinCapacity
 
 abbrev pub failedOrdRequirement : ℕ
-failedOrdRequirement = 2
+failedOrdRequirement = refusalNumber FailedOrdRequirement
 
 abbrev pub invalidPtr : ℕ
-invalidPtr = 3
+invalidPtr = refusalNumber InvalidPtr
 
 abbrev pub badLayout : ℕ
-badLayout = 4
+badLayout = refusalNumber BadLayout
 
 abbrev pub notSound : ℕ
-notSound = 5
+notSound = refusalNumber NotSound
 
 abbrev pub badTime : ℕ
-badTime = 6
+badTime = refusalNumber BadTime
 
 -- "Any insertion answers New or Replacing with the handle, and the old value if replacing."
 pub data Inserted : Type 0 where

@@ -5,7 +5,7 @@ use native.Mathlib.Decide.{decLe}
 use Rattle.wavl.specs.Lists.{choose}
 use Rattle.rules.specs.Queue.{Queue, fresh, decBoth}
 use Rattle.rules.specs.Answers.{badLayout}
-use Rattle.rules.specs.Sound.{limit, topLimit}
+use Rattle.handle.specs.Numbers.{limit, topLimit}
 
 pub data LaidOut : Type 0 where
   laidOut : Queue → LaidOut

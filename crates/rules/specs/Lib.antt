@@ -6,11 +6,10 @@ pub mod Remove
 pub mod Look
 pub mod Sound
 pub mod LayOut
-pub mod Changes
-pub mod Handles
 pub mod Table
 pub mod Calls
 pub mod Bench
 -- The definitions of document 01, a module for each part of it.
 pub mod Due
 pub mod DueFloor
+pub mod inner

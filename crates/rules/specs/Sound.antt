@@ -2,25 +2,11 @@
 -- A reader may rely on this: rules 1, 3 and 7 speak of links and unused words, of which a queue has none; they come with the store.
 use mathlib.Core.List.{List, [], _∷_, _++_}
 use Prim.Native.Nat.{ℕ, _≤_, _<_}
+use Rattle.handle.specs.Numbers.{InRange}
 use Rattle.wavl.specs.Lists.{All, Once}
 use Rattle.wavl.specs.Entry.{Entry, Rising, slots}
 use Rattle.wavl.specs.Ranks.{Ranked}
 use Rattle.rules.specs.Queue.{Handle, Queue, entries}
-
--- "capacity 1 to 1,024 slots". No proof computes with it: request 3 raises it here and nowhere else.
-unfoldable pub limit : ℕ
-limit = 1024
-
--- "the top generation, 1 to 4,294,967,295"
-unfoldable pub topLimit : ℕ
-topLimit = 4294967295
-
--- what laying out asks of capacity and top generation; refused 4 otherwise
-pub record InRange (capacity top : ℕ) : Type 0 where
-  pub capacity-from : 1 ≤ capacity
-  pub capacity-to : capacity ≤ limit
-  pub top-from : 1 ≤ top
-  pub top-to : top ≤ topLimit
 
 -- the slots of the free list, in its order
 unfoldable pub freeSlots : List Handle → List ℕ

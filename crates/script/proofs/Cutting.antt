@@ -10,7 +10,7 @@ use lib.Seq.{drop-cons, drop-drop}
 use lib.Dec.{eqb, leb}
 use borrow.Author.Tests.{eq-eqb, ne-eqb, lt-ltb, le-ltb}
 use Rattle.arena.specs.Branch.{ifte}
-use Rattle.script.specs.Fields.{spaces, others, skipped, passed, fieldFrom, nextField, endsAt}
+use Rattle.script.specs.inner.Fields.{spaces, others, skipped, passed, fieldFrom, nextField, endsAt}
 use Rattle.script.specs.declared.fields.Field.the-variants.{At, Nothing}
 
 module _ (s : List ℕ) (i j : ℕ) where

@@ -6,8 +6,8 @@ use native.Mathlib.Omega.{arith}
 use lib.ListN.{length}
 use Rattle.handle.specs.declared.Key.{Key}
 use Rattle.handle.specs.declared.Side.{Side}
-use Rattle.script.specs.Numbers.{unsignedOf, signedOf, sideOf}
-use Rattle.script.specs.Fields.{nextField, InLine, part, numberField, keyField, sideField}
+use Rattle.script.specs.inner.Numbers.{unsignedOf, signedOf, sideOf}
+use Rattle.script.specs.inner.Fields.{nextField, InLine, part, numberField, keyField, sideField}
 use Rattle.script.specs.declared.fields.Field.{Field}
 use Rattle.script.specs.declared.fields.Field.the-variants.{At, Nothing}
 use Rattle.script.specs.declared.fields.Number.{Number}

@@ -9,7 +9,7 @@ use lib.Seq.{drop-cons}
 use borrow.Author.Tests.{lt-ltb, le-ltb}
 use Rattle.script.specs.declared.fields.Number.{Number}
 use Rattle.script.specs.declared.fields.Number.the-variants.{Is, Bad}
-use Rattle.script.specs.Numbers.{digitOf, readOn}
+use Rattle.script.specs.inner.Numbers.{digitOf, readOn}
 
 pub digit-is : (b w : ℕ) → w ≡ b → 48 ≤ b → b ≤ 57 → w - 48 ≡ digitOf b
 unfolding digitOf

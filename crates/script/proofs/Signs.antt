@@ -13,7 +13,7 @@ use Rattle.script.specs.declared.fields.Number.{Number}
 use Rattle.script.specs.declared.fields.Number as N
 use Rattle.script.specs.declared.fields.SignedNumber.{SignedNumber}
 use Rattle.script.specs.declared.fields.SignedNumber as S
-use Rattle.script.specs.Numbers.{unsignedOf, belowOf, aboveOf, negative, signedOf, sideAt, sideOf}
+use Rattle.script.specs.inner.Numbers.{unsignedOf, belowOf, aboveOf, negative, signedOf, sideAt, sideOf}
 use Rattle.script.specs.declared.fields.SideNumber.{SideNumber}
 use Rattle.script.specs.declared.fields.SideNumber as D
 

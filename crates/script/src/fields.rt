@@ -1,7 +1,7 @@
 // A line's fields and the numbers in them, each equal to its model on the line's bytes: no byte is read as something else.
 ghost use mathlib.Core.Path.{_≡_};
-ghost use Rattle.script.specs.Numbers.{digitOf, unsignedOf, belowOf, aboveOf, signedOf, sideOf};
-ghost use Rattle.script.specs.Fields.{skipped, passed, nextField, InLine, endsAt, numberField, keyField, sideField};
+ghost use Rattle.script.specs.inner.Numbers.{digitOf, unsignedOf, belowOf, aboveOf, signedOf, sideOf};
+ghost use Rattle.script.specs.inner.Fields.{skipped, passed, nextField, InLine, endsAt, numberField, keyField, sideField};
 use arena::keys;
 use handle::Key;
 use handle::Side;

@@ -6,14 +6,14 @@ use mathlib.Core.List.{List}
 use lib.Dec.{ltb, eqb}
 use borrow.Author.Tests.{lt-ltb, le-ltb, lt-leb}
 use Rattle.arena.specs.Words.{field, head, LEFT, RIGHT, RANK, BACK, GENERATION, STACK, TOP, HEIGHT}
-use Rattle.tree.specs.Links.{rankOf}
-use Rattle.sound.specs.Nodes.{fitsTest, generationTest, ranksTest}
-use Rattle.sound.specs.Slots.{slotsTest, restWith, restTest, hangsWith, hangsTest, placeWith, placeTest}
-use Rattle.sound.specs.Walking.{wholeTest}
+use Rattle.tree.specs.inner.Links.{rankOf}
+use Rattle.sound.specs.inner.Nodes.{fitsTest, generationTest, ranksTest}
+use Rattle.sound.specs.inner.Slots.{slotsTest, restWith, restTest, hangsWith, hangsTest, placeWith, placeTest}
+use Rattle.sound.specs.inner.Walking.{wholeTest}
 use Rattle.arena.specs.Header.{headerOf}
 use Rattle.arena.specs.declared.header.Header.{Header}
 use Rattle.arena.specs.declared.header.Header.the-variants.{Passes, Fails}
-use Rattle.sound.specs.Check.{topTest, unusedTest, rulesWith, rulesTest, soundModel}
+use Rattle.sound.specs.inner.Check.{topTest, unusedTest, rulesWith, rulesTest, soundModel}
 
 -- a test on what was read
 pub eq-asks : (t : Bool) (w w′ i : ℕ) → w ≡ w′ → t ≡ eqb w i → t ≡ eqb w′ i

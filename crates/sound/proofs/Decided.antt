@@ -4,7 +4,7 @@ use Prim.Native.Nat.{ℕ}
 use mathlib.Core.Path.{_≡_, refl, sym, _∙_}
 use mathlib.Core.Bool.{Bool, true, false}
 use mathlib.Core.List.{List}
-use Rattle.sound.specs.Check.{soundModel}
+use Rattle.sound.specs.inner.Check.{soundModel}
 use Rattle.sound.specs.Decides.{Decides}
 use Rattle.sound.proofs.Choices.{not-yes}
 use Rattle.sound.proofs.Yes.{yes-is-right}

@@ -10,7 +10,7 @@ use borrow.Author.Tests.{eq-eqb, ne-eqb, lt-leb}
 use Rattle.handle.specs.Numbers.{noSlot}
 use Rattle.arena.specs.Branch.{ifte}
 use Rattle.arena.specs.Words.{field, KEY, LEFT, RIGHT, RANK, GENERATION, VALUE}
-use Rattle.tree.specs.Links.{rankOf}
+use Rattle.tree.specs.inner.Links.{rankOf}
 use Rattle.wavl.specs.Lists.{All}
 use Rattle.wavl.specs.Entry.{Entry}
 use Rattle.wavl.specs.Tree.{Tree, tip, fork, rank, inorder}
@@ -20,9 +20,9 @@ use Rattle.rules.specs.Sound.{LiveGeneration}
 use Rattle.holds.specs.Ends.{topSlot}
 use Rattle.holds.specs.Links.{Links}
 use Rattle.holds.specs.Entries.{EntryWords, AllEntries}
-use Rattle.sound.specs.Nodes.{nodeTest}
-use Rattle.sound.specs.Joints.{joinTest}
-use Rattle.sound.specs.Walking.{walkNode, walkModel}
+use Rattle.sound.specs.inner.Nodes.{nodeTest}
+use Rattle.sound.specs.inner.Joints.{joinTest}
+use Rattle.sound.specs.inner.Walking.{walkNode, walkModel}
 use Rattle.sound.specs.declared.walking.Walked.{Walked}
 use Rattle.sound.specs.declared.walking.Walked.the-variants.{To, Broken}
 use Rattle.sound.proofs.NodeFacts.{GoodNode, node-says, join-says}

@@ -24,7 +24,7 @@ use Rattle.holds.specs.Holds.{Holds}
 use Rattle.holds.proofs.Has.{Has, has-cases}
 use Rattle.holds.proofs.Parts.{sound-of, words-of, few-slots, separate-of, used-few, free-low, size-few}
 use Rattle.holds.proofs.States.{State, live, free, retired, state-of, live-node}
-use Rattle.sound.specs.Walking.{deepest}
+use Rattle.sound.specs.inner.Walking.{deepest}
 use Rattle.sound.proofs.SlotFacts.{Hangs, GoodSlot, GoodPlace, Good}
 use Rattle.sound.proofs.Grown.{rank-some}
 use Rattle.sound.proofs.Walks.{top-rank}

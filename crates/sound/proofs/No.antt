@@ -6,16 +6,16 @@ use mathlib.Core.List.{List}
 use native.Mathlib.Omega.{arith}
 use lib.ListN.{length}
 use borrow.Author.Tests.{le-ltb, eq-eqb}
-use Rattle.handle.specs.Numbers.{noSlot}
-use Rattle.arena.specs.Words.{topLimit, head, ROOT}
+use Rattle.handle.specs.Numbers.{noSlot, topLimit}
+use Rattle.arena.specs.Words.{head, ROOT}
 use Rattle.arena.proofs.Theorems.{passes}
 use Rattle.wavl.proofs.Rule.{ranked→ranks}
 use Rattle.rules.specs.Queue.{Queue, entries}
 use Rattle.holds.specs.Holds.{Holds}
 use Rattle.holds.proofs.Chains.{endOr}
 use Rattle.holds.proofs.Parts.{sound-of, words-of, few-slots, separate-of, live-low}
-use Rattle.sound.specs.Walking.{deepest, walkModel, wholeTest}
-use Rattle.sound.specs.Check.{topTest, unusedTest, rulesWith, rulesTest, soundModel}
+use Rattle.sound.specs.inner.Walking.{deepest, walkModel, wholeTest}
+use Rattle.sound.specs.inner.Check.{topTest, unusedTest, rulesWith, rulesTest, soundModel}
 use Rattle.sound.specs.declared.walking.Walked.the-variants.{To}
 use Rattle.sound.proofs.NodeFacts.{join-is}
 use Rattle.sound.proofs.SlotFacts.{slots-are}

@@ -7,12 +7,12 @@ use mathlib.Core.List.{List}
 use native.Mathlib.Omega.{arith}
 use borrow.Author.Tests.{ltb-true, ltb-false, leb-false, eqb-true, lt-ltb, le-ltb, lt-leb, eq-eqb}
 use Rattle.arena.specs.Words.{field, KEY, LEFT, RIGHT, RANK, BACK, GENERATION}
-use Rattle.tree.specs.Links.{rankOf}
+use Rattle.tree.specs.inner.Links.{rankOf}
 use Rattle.wavl.specs.Ranks.{Fits}
 use Rattle.rules.specs.Sound.{Generation}
 use Rattle.arena.proofs.Paths.{no-refusal, no-refusals}
-use Rattle.sound.specs.Nodes.{fitsTest, generationTest, ranksTest, nodeTest}
-use Rattle.sound.specs.Joints.{afterOf, beforeOf, risesTest, joinTest}
+use Rattle.sound.specs.inner.Nodes.{fitsTest, generationTest, ranksTest, nodeTest}
+use Rattle.sound.specs.inner.Joints.{afterOf, beforeOf, risesTest, joinTest}
 use Rattle.sound.proofs.Choices.{both-say, both-are, past-is, choice-says, choice-is}
 
 pub fits-say : (r a b : ℕ) → fitsTest r a b ≡ true → Fits r a b

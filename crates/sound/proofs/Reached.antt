@@ -13,7 +13,7 @@ use Rattle.wavl.specs.Tree.{Tree, tip, fork, left, inorder}
 use Rattle.holds.specs.Ends.{topSlot}
 use Rattle.holds.specs.Links.{Links, TreeWords}
 use Rattle.holds.proofs.Has.{Has, has-cases, has-top, has-near, has-far}
-use Rattle.sound.specs.Walking.{deepest}
+use Rattle.sound.specs.inner.Walking.{deepest}
 use Rattle.sound.proofs.SlotFacts.{Hangs}
 
 has-none : (p : ℕ) → Has p tip → ⊥

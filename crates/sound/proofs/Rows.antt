@@ -16,7 +16,7 @@ use Rattle.holds.specs.Ends.{firstSlot}
 use Rattle.holds.specs.Chain.{Chain, ChainWords}
 use Rattle.holds.specs.Entries.{AllEntries}
 use Rattle.holds.proofs.Chains.{endOr, end-last}
-use Rattle.sound.specs.Joints.{afterOf, beforeOf}
+use Rattle.sound.specs.inner.Joints.{afterOf, beforeOf}
 use Rattle.sound.proofs.NodeFacts.{Joint}
 
 -- the entries l behind the slot q, of which x is the last; x is q where there are none

@@ -14,8 +14,8 @@ use Rattle.arena.specs.Words.{field, head, LEFT, RIGHT, RANK, BACK, GENERATION,
 use Rattle.rules.specs.Sound.{Generation}
 use Rattle.holds.specs.Free.{Blank}
 use Rattle.arena.proofs.Paths.{no-refusal}
-use Rattle.sound.specs.Walking.{deepest}
-use Rattle.sound.specs.Slots.{unlinkedTest, blankTest, restWith, restTest, childTest, hangsWith, hangsTest, slotTest, placeWith, placeTest, slotsTest}
+use Rattle.sound.specs.inner.Walking.{deepest}
+use Rattle.sound.specs.inner.Slots.{unlinkedTest, blankTest, restWith, restTest, childTest, hangsWith, hangsTest, slotTest, placeWith, placeTest, slotsTest}
 use Rattle.sound.proofs.Choices.{both-say, both-are, past-is, choice-says, choice-is}
 use Rattle.sound.proofs.NodeFacts.{generation-says, generation-is}
 

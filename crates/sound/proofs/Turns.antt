@@ -10,11 +10,11 @@ use Rattle.handle.specs.Numbers.{noSlot}
 use Rattle.arena.specs.Branch.{ifte}
 use Rattle.arena.specs.Words.{field, head, LEFT, RIGHT, ROOT}
 use Rattle.arena.proofs.Paths.{no-refusal}
-use Rattle.sound.specs.Nodes.{nodeTest}
-use Rattle.sound.specs.Joints.{joinTest}
-use Rattle.sound.specs.Walking.{deepest, walkNode, walkModel, wholeTest}
-use Rattle.sound.specs.Slots.{slotTest, placeTest, slotsTest}
-use Rattle.sound.specs.Check.{unusedTest}
+use Rattle.sound.specs.inner.Nodes.{nodeTest}
+use Rattle.sound.specs.inner.Joints.{joinTest}
+use Rattle.sound.specs.inner.Walking.{deepest, walkNode, walkModel, wholeTest}
+use Rattle.sound.specs.inner.Slots.{slotTest, placeTest, slotsTest}
+use Rattle.sound.specs.inner.Check.{unusedTest}
 use Rattle.sound.specs.declared.walking.Walked.{Walked}
 use Rattle.sound.specs.declared.walking.Walked.the-variants.{To, Broken}
 

@@ -13,10 +13,10 @@ use Rattle.arena.specs.Words.{field, head, LEFT, RIGHT, PREV, ROOT}
 use Rattle.wavl.specs.Lists.{All, Differ, Once}
 use Rattle.rules.specs.Sound.{Under}
 use Rattle.holds.proofs.Counting.{at-most}
-use Rattle.sound.specs.Nodes.{nodeTest}
-use Rattle.sound.specs.Joints.{joinTest}
-use Rattle.sound.specs.Walking.{deepest, walkModel}
-use Rattle.sound.specs.Visits.{visits, allVisits}
+use Rattle.sound.specs.inner.Nodes.{nodeTest}
+use Rattle.sound.specs.inner.Joints.{joinTest}
+use Rattle.sound.specs.inner.Walking.{deepest, walkModel}
+use Rattle.sound.specs.inner.Visits.{visits, allVisits}
 use Rattle.sound.specs.declared.walking.Walked.{Walked}
 use Rattle.sound.specs.declared.walking.Walked.the-variants.{To, Broken}
 use Rattle.sound.proofs.NodeFacts.{node-says, join-says}

@@ -7,7 +7,7 @@ use mathlib.Core.List.{List, [], _∷_, _++_}
 use native.Mathlib.Omega.{arith}
 use Rattle.handle.specs.Numbers.{noSlot}
 use Rattle.arena.specs.Words.{field, KEY}
-use Rattle.tree.specs.Links.{rankOf}
+use Rattle.tree.specs.inner.Links.{rankOf}
 use Rattle.wavl.specs.Lists.{All}
 use Rattle.wavl.specs.Entry.{Entry, Rising, slots}
 use Rattle.wavl.specs.Tree.{Tree, tip, fork, rank, inorder}
@@ -19,8 +19,8 @@ use Rattle.holds.specs.Links.{Links}
 use Rattle.holds.specs.Chain.{Chain, ChainWords}
 use Rattle.holds.specs.Entries.{EntryWords, AllEntries}
 use Rattle.holds.proofs.Chains.{endOr, end-last}
-use Rattle.sound.specs.Joints.{afterOf}
-use Rattle.sound.specs.Walking.{walkModel}
+use Rattle.sound.specs.inner.Joints.{afterOf}
+use Rattle.sound.specs.inner.Walking.{walkModel}
 use Rattle.sound.specs.declared.walking.Walked.the-variants.{To}
 use Rattle.sound.proofs.Turns.{walk-tip, walk-on}
 use Rattle.sound.proofs.NodeFacts.{GoodNode, node-is, Joint, join-is}

@@ -8,8 +8,9 @@ use native.Mathlib.Decide.{ℕ-discrete}
 use native.Mathlib.Omega.{arith}
 use lib.Dec.{ltb, eqb}
 use borrow.Author.Tests.{ltb-false, eqb-true}
-use Rattle.handle.specs.Numbers.{noSlot}
-use Rattle.arena.specs.Words.{limit, topLimit, field, head, RANK, BACK, TOP, HEIGHT, ROOT}
+use Rattle.handle.specs.Numbers.{noSlot, limit, topLimit}
+use Rattle.handle.proofs.Limits.{limit-fits}
+use Rattle.arena.specs.Words.{field, head, RANK, BACK, TOP, HEIGHT, ROOT}
 use Rattle.arena.specs.Header.{headerOf, Passing}
 use Rattle.arena.proofs.Theorems.{passing}
 use Rattle.arena.specs.declared.header.Header.{Header}
@@ -30,10 +31,10 @@ use Rattle.holds.proofs.Has.{Has}
 use Rattle.holds.proofs.States.{slot-entry, live-node}
 use Rattle.holds.proofs.Trees.{slot-low}
 use Rattle.arena.proofs.Paths.{no-refusal}
-use Rattle.sound.specs.Joints.{joinTest}
-use Rattle.sound.specs.Walking.{deepest, onward, walkModel, wholeTest}
-use Rattle.sound.specs.Slots.{slotsTest}
-use Rattle.sound.specs.Check.{topTest, unusedTest, rulesWith, rulesTest, headed, soundModel}
+use Rattle.sound.specs.inner.Joints.{joinTest}
+use Rattle.sound.specs.inner.Walking.{deepest, onward, walkModel, wholeTest}
+use Rattle.sound.specs.inner.Slots.{slotsTest}
+use Rattle.sound.specs.inner.Check.{topTest, unusedTest, rulesWith, rulesTest, headed, soundModel}
 use Rattle.sound.specs.declared.walking.Walked.{Walked}
 use Rattle.sound.specs.declared.walking.Walked.the-variants.{To, Broken}
 use Rattle.sound.proofs.Choices.{not-yes, both-say}
@@ -78,7 +79,7 @@ record Passed (s : List ℕ) (cap : ℕ) : Type 0 where
   walk : Walk s cap (head s TOP)
 
 few-of : (s : List ℕ) (cap : ℕ) → Passing s cap → cap ≤ noSlot
-few-of s cap p = let h : cap ≤ limit = p .few in omega arith
+few-of s cap p = let h : cap ≤ limit = p .few in let l = limit-fits in omega arith
 
 rules-say : (s : List ℕ) (cap : ℕ) → Passing s cap → rulesTest s cap ≡ true → Passed s cap
 unfolding rulesTest rulesWith topTest

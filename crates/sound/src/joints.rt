@@ -4,7 +4,7 @@
 ghost use mathlib.Core.Path.{_≡_};
 ghost use Prim.Native.Nat.{_<_};
 ghost use Rattle.arena.specs.Words.{Room};
-ghost use Rattle.sound.specs.Joints.{afterOf, beforeOf, risesTest, joinTest};
+ghost use Rattle.sound.specs.inner.Joints.{afterOf, beforeOf, risesTest, joinTest};
 use arena::words;
 use arena::words::FIRST;
 use arena::words::KEY;

@@ -4,7 +4,7 @@
 ghost use mathlib.Core.Path.{_≡_};
 ghost use Prim.Native.Nat.{_<_};
 ghost use Rattle.arena.specs.Words.{Room};
-ghost use Rattle.sound.specs.Check.{topTest, unusedTest, rulesTest};
+ghost use Rattle.sound.specs.inner.Check.{topTest, unusedTest, rulesTest};
 ghost use Rattle.sound.specs.Decides.{Decides};
 use arena::header;
 use arena::header::Header;

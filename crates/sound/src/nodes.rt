@@ -3,7 +3,7 @@
 ghost use mathlib.Core.Path.{_≡_};
 ghost use Prim.Native.Nat.{_<_};
 ghost use Rattle.arena.specs.Words.{Room};
-ghost use Rattle.sound.specs.Nodes.{fitsTest, generationTest, ranksTest, nodeTest};
+ghost use Rattle.sound.specs.inner.Nodes.{fitsTest, generationTest, ranksTest, nodeTest};
 use arena::words;
 use arena::words::BACK;
 use arena::words::GENERATION;

@@ -4,7 +4,7 @@
 ghost use mathlib.Core.Path.{_≡_};
 ghost use Prim.Native.Nat.{_<_, _≤_};
 ghost use Rattle.arena.specs.Words.{Room};
-ghost use Rattle.sound.specs.Slots.{unlinkedTest, blankTest, restTest, childTest, hangsTest, slotTest, placeTest, slotsTest};
+ghost use Rattle.sound.specs.inner.Slots.{unlinkedTest, blankTest, restTest, childTest, hangsTest, slotTest, placeTest, slotsTest};
 use crate::nodes;
 use crate::walking::DEEPEST;
 use arena::words;

@@ -4,7 +4,7 @@
 ghost use mathlib.Core.Path.{_≡_};
 ghost use Prim.Native.Nat.{_<_};
 ghost use Rattle.arena.specs.Words.{Room};
-ghost use Rattle.sound.specs.Walking.{walkModel, wholeTest};
+ghost use Rattle.sound.specs.inner.Walking.{walkModel, wholeTest};
 use crate::joints;
 use crate::nodes;
 use arena::words;

@@ -14,7 +14,7 @@ use Rattle.wavl.specs.Way.{step, Way, plug}
 use Rattle.wavl.specs.Ranks.{Ranks}
 use Rattle.wavl.proofs.Placed.{WayRanks}
 use Rattle.wavl.proofs.Removed.{beside}
-use Rattle.lower.specs.Climb.{climbFrom}
+use Rattle.lower.specs.inner.Climb.{climbFrom}
 use Rattle.holds.specs.Ends.{number}
 use Rattle.holds.specs.Links.{TreeWords}
 

@@ -19,11 +19,11 @@ use Rattle.wavl.specs.Taking as Taking
 use Rattle.wavl.proofs.Order.{Same, node-same, plug-same}
 use Rattle.wavl.proofs.Placed.{make, Parts, parts, WayRanks}
 use Rattle.wavl.proofs.Rounds.{remove-root, remove-stop, remove-lower, remove-rotate, remove-lower-both, remove-rotate-twice}
-use Rattle.tree.specs.Links.{spreadWith}
-use Rattle.lower.specs.Turns.{turnOnce, turnTwiceWith, turnTwice}
-use Rattle.tree.specs.Climb.{onClimbed}
+use Rattle.tree.specs.inner.Links.{spreadWith}
+use Rattle.lower.specs.inner.Turns.{turnOnce, turnTwiceWith, turnTwice}
+use Rattle.tree.specs.inner.Climb.{onClimbed}
 use Rattle.tree.specs.declared.Climbed.the-variants.{Done}
-use Rattle.lower.specs.Climb.{goUp, onward, lowerOne, lowerBoth, climbTurn, climbFrom}
+use Rattle.lower.specs.inner.Climb.{goUp, onward, lowerOne, lowerBoth, climbTurn, climbFrom}
 use Rattle.holds.specs.Ends.{topSlot, number}
 use Rattle.holds.specs.Links.{Node, Links, TreeWords}
 use Rattle.holds.proofs.AnyDepth.{Regrown, Came}

@@ -18,9 +18,9 @@ use Rattle.wavl.specs.Tree.{Side, left, Tree, tip, fork, node, pick, rank, inor
 use Rattle.wavl.specs.Way.{step, Way, plug}
 use Rattle.wavl.specs.Ranks.{Ranks}
 use Rattle.wavl.proofs.Placed.{WayRanks, unplug-ranks}
-use Rattle.remove.specs.Take.{settleAt, filledFrom, filledBy}
+use Rattle.remove.specs.inner.Take.{settleAt, filledFrom, filledBy}
 use Rattle.holds.specs.Links.{TreeWords}
-use Rattle.holds.specs.Ways.{parent, sideIn}
+use Rattle.holds.specs.inner.Ways.{parent, sideIn}
 use Rattle.holds.proofs.Has.{Has, Distinct, has-top}
 use Rattle.holds.proofs.Ways.{unplugged, HasWay, has-plug, above-apart}
 use Rattle.holds.proofs.Trees.{LinkOf}

@@ -7,9 +7,9 @@ use mathlib.Core.List.{List}
 use native.Mathlib.Omega.{arith}
 use Rattle.arena.specs.Words.{LEFT, BACK}
 use Rattle.wavl.specs.Lists.{In}
-use Rattle.tree.specs.Links.{sideOf, withBack, withChild, relinked}
+use Rattle.tree.specs.inner.Links.{sideOf, withBack, withChild, relinked}
 use Rattle.tree.proofs.Keeps.{side-small}
-use Rattle.holds.specs.Writes.{Only}
+use Rattle.holds.specs.inner.Writes.{Only}
 use Rattle.holds.proofs.Trees.{LinkOf}
 use Rattle.holds.proofs.Reshaped.{IsRoot}
 use Rattle.holds.proofs.Writes.{only-none, only-trans, only-back, only-child}

@@ -17,11 +17,11 @@ use Rattle.wavl.proofs.Lists.{all-in, slots-append}
 use Rattle.wavl.proofs.Rising.{node-around}
 use Rattle.wavl.proofs.Order.{plug-around}
 use Rattle.rules.proofs.Lists.{slots-put, once-drop, once-differ, in-put}
-use Rattle.tree.specs.Links.{withBack, withChild}
-use Rattle.remove.specs.Lift.{onlyChild, sideUnder, hungUp, liftWith, liftOut}
+use Rattle.tree.specs.inner.Links.{withBack, withChild}
+use Rattle.remove.specs.inner.Lift.{onlyChild, sideUnder, hungUp, liftWith, liftOut}
 use Rattle.holds.specs.Ends.{topSlot}
 use Rattle.holds.specs.Links.{Links, TreeWords}
-use Rattle.holds.specs.Ways.{parent, sideIn, LinksWay}
+use Rattle.holds.specs.inner.Ways.{parent, sideIn, LinksWay}
 use Rattle.holds.proofs.Has.{Has, Distinct, Apart, apart, has-top, has-near}
 use Rattle.holds.proofs.Trees.{number-small, SameLinks, slot-low}
 use Rattle.holds.proofs.Ways.{Parted, unplugged, plugged, distinct-in, HasWay, has-plug, has-way, way-apart}

@@ -12,13 +12,13 @@ use Rattle.wavl.specs.Entry.{Entry, slots}
 use Rattle.wavl.specs.Tree.{Side, left, right, other, Tree, tip, fork, node, rank, entry, child, inorder}
 use Rattle.wavl.specs.Way.{step, Way, plug}
 use Rattle.wavl.proofs.Order.{node-same}
-use Rattle.tree.specs.Links.{rankOf, sideOf}
+use Rattle.tree.specs.inner.Links.{rankOf, sideOf}
 use Rattle.tree.specs.declared.Climbed.{Climbed}
 use Rattle.tree.specs.declared.Climbed.the-variants.{Done, Up}
-use Rattle.lower.specs.Climb.{goUpTo, goUp}
+use Rattle.lower.specs.inner.Climb.{goUpTo, goUp}
 use Rattle.holds.specs.Ends.{topSlot, number}
 use Rattle.holds.specs.Links.{Links, TreeWords}
-use Rattle.holds.specs.Ways.{parent}
+use Rattle.holds.specs.inner.Ways.{parent}
 use Rattle.holds.proofs.Has.{Has, Distinct, has-top}
 use Rattle.holds.proofs.Trees.{LinkOf, opened, slot-low}
 use Rattle.holds.proofs.Ways.{Parted, unplugged, distinct-in}

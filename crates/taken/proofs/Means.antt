@@ -9,7 +9,7 @@ use native.Mathlib.Omega.{arith}
 use lib.ListN.{length}
 use Rattle.handle.specs.declared.Handle as H
 use Rattle.arena.specs.Keys.{signed}
-use Rattle.arena.specs.Entries.{isLive, entryOf}
+use Rattle.arena.specs.inner.Entries.{isLive, entryOf}
 use Rattle.arena.specs.declared.entries.Entry as A
 use Rattle.arena.proofs.KeyLaws.{signed-undone}
 use Rattle.wavl.specs.Entry.{Entry, slots}
@@ -19,9 +19,9 @@ use Rattle.wavl.specs.Taking.{removeAt}
 use Rattle.wavl.proofs.Rule.{ranked→ranks}
 use Rattle.wavl.proofs.Size.{rank-le-31}
 use Rattle.wavl.proofs.Rising.{removed-around}
-use Rattle.chain.specs.Links.{joined}
-use Rattle.remove.specs.Take.{takeOut}
-use Rattle.remove.specs.Remove.{letGo, noted, removeLive, removeBy, readBy}
+use Rattle.chain.specs.inner.Links.{joined}
+use Rattle.remove.specs.inner.Take.{takeOut}
+use Rattle.remove.specs.inner.Remove.{letGo, noted, removeLive, removeBy, readBy}
 use Rattle.remove.proofs.Laws.{dead-refused}
 use Rattle.rules.specs.Queue.{Queue, entries, Names}
 use Rattle.rules.specs.Answers.{removed}

@@ -10,7 +10,7 @@ use lib.ListN.{length, length-append}
 use Rattle.handle.specs.Numbers.{noSlot}
 use Rattle.arena.specs.Words.{Room, field, KEY, PREV, NEXT, GENERATION, VALUE, STACK}
 use Rattle.arena.specs.Laying.{blankOf}
-use Rattle.arena.specs.Slots.{pushed, freeSlot}
+use Rattle.arena.specs.inner.Slots.{pushed, freeSlot}
 use Rattle.arena.specs.declared.slots.Freed as F
 use Rattle.wavl.specs.Lists.{All, In, Differ, Once}
 use Rattle.wavl.specs.Entry.{Entry, slots}
@@ -25,7 +25,7 @@ use Rattle.holds.specs.Chain.{ChainWords}
 use Rattle.holds.specs.Entries.{EntryWords, AllEntries}
 use Rattle.holds.specs.Free.{Retired}
 use Rattle.holds.specs.Holds.{HeaderWords, Unused, Words}
-use Rattle.holds.specs.Writes.{Only}
+use Rattle.holds.specs.inner.Writes.{Only}
 use Rattle.holds.proofs.Parts.{Separate, used-few, live-low, free-low, free-not-live}
 use Rattle.holds.proofs.Groups.{unused-stays, tree-stays, chain-stays, entries-stay, stack-stays, retired-stays}
 use Rattle.holds.proofs.Reshaped.{header-stays}

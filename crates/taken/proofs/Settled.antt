@@ -21,11 +21,11 @@ use Rattle.wavl.proofs.Order.{Same, plug-same}
 use Rattle.wavl.proofs.Placed.{WayRanks}
 use Rattle.wavl.proofs.Taken.{fork-rank}
 use Rattle.wavl.proofs.Rounds.{remove-root, settle-root, settle-childless, settle-parent}
-use Rattle.lower.specs.Climb.{onward, lowerOne, climbFrom}
-use Rattle.remove.specs.Take.{isChildless, settleBare, settleAt}
+use Rattle.lower.specs.inner.Climb.{onward, lowerOne, climbFrom}
+use Rattle.remove.specs.inner.Take.{isChildless, settleBare, settleAt}
 use Rattle.holds.specs.Ends.{topSlot, number}
 use Rattle.holds.specs.Links.{Links, TreeWords}
-use Rattle.holds.specs.Ways.{parent, sideIn}
+use Rattle.holds.specs.inner.Ways.{parent, sideIn}
 use Rattle.holds.proofs.Has.{Distinct}
 use Rattle.holds.proofs.Ways.{unplugged}
 use Rattle.taken.proofs.Kept.{tree-none, tree-trans}

@@ -15,12 +15,12 @@ use Rattle.wavl.specs.Way.{Way, plug, before, after}
 use Rattle.wavl.proofs.Lists.{all-of}
 use Rattle.wavl.proofs.Rising.{node-around}
 use Rattle.rules.proofs.Lists.{slots-put, once-put, once-drop, in-put, in-drop}
-use Rattle.tree.specs.Links.{withBack, withNode, relinked}
-use Rattle.remove.specs.Lift.{standing, replaced}
+use Rattle.tree.specs.inner.Links.{withBack, withNode, relinked}
+use Rattle.remove.specs.inner.Lift.{standing, replaced}
 use Rattle.holds.specs.Ends.{topSlot}
 use Rattle.holds.specs.Links.{Node, Links, TreeWords}
-use Rattle.holds.specs.Ways.{parent}
-use Rattle.holds.specs.Writes.{Only}
+use Rattle.holds.specs.inner.Ways.{parent}
+use Rattle.holds.specs.inner.Writes.{Only}
 use Rattle.holds.proofs.Has.{Has, Distinct, Apart, apart, has-cases, has-top, has-near, has-far}
 use Rattle.holds.proofs.Trees.{LinkOf, carry, carry-node, slot-low}
 use Rattle.holds.proofs.Ways.{Parted, unplugged, distinct-in, HasWay, has-plug, has-way, way-apart}

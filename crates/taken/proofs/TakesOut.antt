@@ -15,8 +15,8 @@ use Rattle.wavl.specs.Ranks.{Ranks}
 use Rattle.wavl.specs.Taking.{endmost, vacateEnd, vacate, settle, removeAt}
 use Rattle.wavl.proofs.Placed.{unplug-ranks}
 use Rattle.wavl.proofs.Taken.{fork-rank}
-use Rattle.remove.specs.Take.{isChildless, closedFrom, replacementOf, filledBy, takeOver, takeOut}
-use Rattle.remove.specs.Lift.{liftOut}
+use Rattle.remove.specs.inner.Take.{isChildless, closedFrom, replacementOf, filledBy, takeOver, takeOut}
+use Rattle.remove.specs.inner.Lift.{liftOut}
 use Rattle.holds.specs.Links.{TreeWords}
 use Rattle.holds.specs.Chain.{ChainWords}
 use Rattle.holds.proofs.Has.{Distinct}

@@ -11,11 +11,11 @@ use Rattle.handle.specs.Numbers.{noSlot}
 use Rattle.wavl.specs.Entry.{Entry}
 use Rattle.wavl.specs.Tree.{Side, other, Tree, node, rank, entry, child}
 use Rattle.wavl.specs.Way.{step, Way}
-use Rattle.lower.specs.Turns.{turnOnce, turnTwice}
-use Rattle.lower.specs.Climb.{lowerOne, lowerBoth, climbPastWith, climbPast, climbAtWith, climbAt, climbTurnWith, climbTurn}
+use Rattle.lower.specs.inner.Turns.{turnOnce, turnTwice}
+use Rattle.lower.specs.inner.Climb.{lowerOne, lowerBoth, climbPastWith, climbPast, climbAtWith, climbAt, climbTurnWith, climbTurn}
 use Rattle.holds.specs.Ends.{topSlot, number}
 use Rattle.holds.specs.Links.{Node, Links}
-use Rattle.holds.specs.Ways.{parent}
+use Rattle.holds.specs.inner.Ways.{parent}
 use Rattle.holds.proofs.Trees.{opened}
 use Rattle.holds.proofs.Ways.{Parted}
 use Rattle.taken.proofs.Lowered.{as-node, top-entry, rank-of}

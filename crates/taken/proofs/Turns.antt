@@ -9,9 +9,9 @@ use Rattle.wavl.specs.Entry.{Entry, slots}
 use Rattle.wavl.specs.Tree.{Side, left, right, Tree, node, inorder}
 use Rattle.wavl.specs.Way.{Way, plug}
 use Rattle.wavl.proofs.Order.{Same}
-use Rattle.tree.specs.Links.{relinked}
+use Rattle.tree.specs.inner.Links.{relinked}
 use Rattle.holds.specs.Links.{TreeWords}
-use Rattle.holds.specs.Ways.{parent}
+use Rattle.holds.specs.inner.Ways.{parent}
 use Rattle.holds.proofs.Has.{Has, Distinct}
 use Rattle.holds.proofs.Trees.{LinkOf, opened}
 use Rattle.holds.proofs.Ways.{unplugged, distinct-in}

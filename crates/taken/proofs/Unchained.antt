@@ -11,7 +11,7 @@ use Rattle.wavl.specs.Lists.{All, In, Differ, Once}
 use Rattle.wavl.specs.Entry.{Entry, slots}
 use Rattle.wavl.specs.Tree.{Tree}
 use Rattle.wavl.proofs.Lists.{in-left, in-right, pairwise-left}
-use Rattle.chain.specs.Links.{joined, unlinkSlot}
+use Rattle.chain.specs.inner.Links.{joined, unlinkSlot}
 use Rattle.chain.specs.declared.Neighbours.{Neighbours}
 use Rattle.chain.proofs.Laws.{unlink-is, joined-only, joined-field}
 use Rattle.rules.specs.Queue.{Queue, entries}
@@ -23,7 +23,7 @@ use Rattle.holds.specs.Chain.{ChainWords}
 use Rattle.holds.specs.Entries.{AllEntries}
 use Rattle.holds.specs.Free.{FreeStack, AllRetired}
 use Rattle.holds.specs.Holds.{HeaderWords, Unused, Words}
-use Rattle.holds.specs.Writes.{Only}
+use Rattle.holds.specs.inner.Writes.{Only}
 use Rattle.holds.proofs.Parts.{Separate, used-few, live-low, free-low, free-not-live, few-slots, room-of}
 use Rattle.holds.proofs.Writes.{only-room}
 use Rattle.holds.proofs.Groups.{unused-stays, tree-stays, chain-stays, entries-stay, stack-stays, all-retired-stay}

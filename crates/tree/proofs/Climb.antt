@@ -4,8 +4,8 @@ use mathlib.Core.Path.{_≡_}
 use mathlib.Core.Bool.{Bool}
 use mathlib.Core.List.{List}
 use native.Mathlib.Omega.{arith}
-use Rattle.tree.specs.Climb.{Standing, onClimbed}
-use Rattle.tree.specs.Kept.{TreeOnly}
+use Rattle.tree.specs.inner.Climb.{Standing, onClimbed}
+use Rattle.tree.specs.inner.Kept.{TreeOnly}
 use Rattle.tree.specs.declared.Climbed.{Climbed}
 use Rattle.tree.specs.declared.Climbed.the-variants.{Done, Up, NotSound}
 use Rattle.tree.proofs.Keeps.{only-refl, only-trans}

@@ -9,8 +9,8 @@ use borrow.Author.Tests.{ltb-true}
 use Rattle.arena.specs.Branch.{ifte}
 use Rattle.arena.specs.Words.{fields, field, put, putHead, LEFT, RIGHT, RANK, BACK, ROOT}
 use Rattle.arena.proofs.Laws.{length-put, length-putHead, field-off, head-put, rest-put, head-other, field-putHead, rest-putHead}
-use Rattle.tree.specs.Links.{sideOf, withBack, withChild, relinked, withNode, spreadWith}
-use Rattle.tree.specs.Kept.{TreeOnly}
+use Rattle.tree.specs.inner.Links.{sideOf, withBack, withChild, relinked, withNode, spreadWith}
+use Rattle.tree.specs.inner.Kept.{TreeOnly}
 
 -- a choice by a test, with what the test says on either way
 pub either : {A : Type 0} (P : A → Type 0) (t : Bool) (a b : A) → (t ≡ true → P a) → (t ≡ false → P b) → P (ifte t a b)

@@ -1,3 +1,1 @@
-pub mod Links
-pub mod Kept
-pub mod Climb
+pub mod inner

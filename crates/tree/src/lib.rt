@@ -4,7 +4,7 @@
 ghost use mathlib.Core.Path.{_≡_};
 ghost use Prim.Native.Nat.{_<_, _≤_};
 ghost use Rattle.arena.specs.Words.{Room};
-ghost use Rattle.tree.specs.Links.{rankOf, sideOf, withBack, relinked, withNode, withChild, spreadWith};
+ghost use Rattle.tree.specs.inner.Links.{rankOf, sideOf, withBack, relinked, withNode, withChild, spreadWith};
 use arena::words;
 use arena::words::BACK;
 use arena::words::LEFT;

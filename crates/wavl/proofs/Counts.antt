@@ -12,7 +12,7 @@ use Rattle.wavl.specs.Way.{step, Way, plug}
 use Rattle.wavl.specs.Ranks.{Ranks}
 use Rattle.wavl.specs.Placing.{placeRound, climbTurns, insertTurns, turnChanges, climbChanges, insertChanges}
 use Rattle.wavl.specs.Taking.{roundAt, endmost, vacateEnd, vacate}
-use Rattle.wavl.specs.TakingCounts.{climbRotations, removeRotations, climbLowerings, removeChanges}
+use Rattle.wavl.specs.inner.TakingCounts.{climbRotations, removeRotations, climbLowerings, removeChanges}
 use Rattle.wavl.proofs.Order.{choose-cases, place-cases, IsFork}
 use Rattle.wavl.proofs.Placed.{WayRanks, unplug-ranks}
 use Rattle.wavl.proofs.Removed.{take-cases}

@@ -5,5 +5,5 @@ pub mod Way
 pub mod Ranks
 pub mod Placing
 pub mod Taking
-pub mod TakingCounts
 pub mod Search
+pub mod inner

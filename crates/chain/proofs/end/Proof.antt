@@ -1,5 +1,5 @@
 use borrow.Author.Needs.{needs}
-use Rattle.chain.specs.Steps.{endOf}
+use Rattle.chain.specs.inner.Steps.{endOf}
 use Rattle.chain.proofs.end.Statement.{statement}
 use Rattle.chain.proofs.end.Tie as tie
 

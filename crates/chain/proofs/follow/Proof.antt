@@ -2,7 +2,7 @@ use Rattle.arena.proofs.Paths.{paths}
 use Rattle.arena.proofs.Answers.{handle-is}
 use Rattle.chain.proofs.Answers.{stepped-at, stepped-in}
 use borrow.Author.Needs.{needs}
-use Rattle.chain.specs.Steps.{followed}
+use Rattle.chain.specs.inner.Steps.{followed}
 use Rattle.chain.proofs.follow.Statement.{statement}
 use Rattle.chain.proofs.follow.Tie as tie
 

@@ -1,6 +1,6 @@
 use Rattle.arena.proofs.Paths.{paths}
 use borrow.Author.Needs.{needs}
-use Rattle.chain.specs.Links.{hooked}
+use Rattle.chain.specs.inner.Links.{hooked}
 use Rattle.chain.proofs.hook.Statement.{statement}
 use Rattle.chain.proofs.hook.Tie as tie
 

@@ -1,5 +1,5 @@
 use borrow.Author.Needs.{needs}
-use Rattle.chain.specs.Links.{linkAlone}
+use Rattle.chain.specs.inner.Links.{linkAlone}
 use Rattle.chain.proofs.link_alone.Statement.{statement}
 use Rattle.chain.proofs.link_alone.Tie as tie
 

@@ -1,5 +1,5 @@
 use borrow.Author.Needs.{needs}
-use Rattle.chain.specs.Links.{between, linkBeside}
+use Rattle.chain.specs.inner.Links.{between, linkBeside}
 use Rattle.chain.proofs.link_beside.Statement.{statement}
 use Rattle.chain.proofs.link_beside.Tie as tie
 

@@ -2,7 +2,7 @@ use mathlib.Core.Path.{_≡_}
 use Prim.Native.Nat.{_-_, _≤_}
 use native.Mathlib.Omega.{arith}
 use borrow.Author.Needs.{needs}
-use Rattle.find.specs.Seeking.{budget, seekFrom, seekModel}
+use Rattle.find.specs.inner.Seeking.{budget, seekFrom, seekModel}
 use Rattle.find.proofs.Turns.{none, start, spent, outside, equal, beside, down}
 use Rattle.find.proofs.seek.Statement.{statement}
 use Rattle.find.proofs.seek.Tie as tie

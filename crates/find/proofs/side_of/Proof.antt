@@ -1,6 +1,6 @@
 use native.Mathlib.Omega.{arith}
 use Rattle.arena.proofs.Paths.{paths}
-use Rattle.find.specs.Seeking.{sideOf}
+use Rattle.find.specs.inner.Seeking.{sideOf}
 use Rattle.find.proofs.side_of.Statement.{statement}
 use Rattle.find.proofs.side_of.Tie as tie
 

@@ -1,5 +1,5 @@
 use mir.Facts.{toZ-ofZ}
-use Rattle.hosted.specs.Told.{searchedTold}
+use Rattle.hosted.specs.inner.Told.{searchedTold}
 use Rattle.hosted.proofs.Told.{by-looks}
 use borrow.Author.Needs.{needs}
 use Rattle.hosted.proofs.hosted_search.Statement.{statement}

@@ -1,5 +1,5 @@
 use Rattle.arena.proofs.Paths.{paths}
-use Rattle.sound.specs.Check.{topTest}
+use Rattle.sound.specs.inner.Check.{topTest}
 use Rattle.sound.proofs.good_top.Statement.{statement}
 use Rattle.sound.proofs.good_top.Tie as tie
 

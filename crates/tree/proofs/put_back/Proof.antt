@@ -1,6 +1,6 @@
 use Rattle.arena.proofs.Paths.{paths}
 use borrow.Author.Needs.{needs}
-use Rattle.tree.specs.Links.{withBack}
+use Rattle.tree.specs.inner.Links.{withBack}
 use Rattle.tree.proofs.put_back.Statement.{statement}
 use Rattle.tree.proofs.put_back.Tie as tie
 

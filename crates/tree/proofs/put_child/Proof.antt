@@ -1,6 +1,6 @@
 use Rattle.arena.proofs.Paths.{paths}
 use borrow.Author.Needs.{needs}
-use Rattle.tree.specs.Links.{withChild}
+use Rattle.tree.specs.inner.Links.{withChild}
 use Rattle.tree.proofs.put_child.Statement.{statement}
 use Rattle.tree.proofs.put_child.Tie as tie
 

@@ -1,5 +1,5 @@
 use borrow.Author.Needs.{needs}
-use Rattle.tree.specs.Links.{withNode}
+use Rattle.tree.specs.inner.Links.{withNode}
 use Rattle.tree.proofs.put_node.Statement.{statement}
 use Rattle.tree.proofs.put_node.Tie as tie
 

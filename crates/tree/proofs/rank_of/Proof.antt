@@ -1,6 +1,6 @@
 use Rattle.arena.proofs.Paths.{paths}
 use borrow.Author.Needs.{needs}
-use Rattle.tree.specs.Links.{rankOf}
+use Rattle.tree.specs.inner.Links.{rankOf}
 use Rattle.tree.proofs.rank_of.Statement.{statement}
 use Rattle.tree.proofs.rank_of.Tie as tie
 

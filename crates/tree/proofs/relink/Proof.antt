@@ -1,7 +1,7 @@
 use Rattle.arena.proofs.Paths.{paths}
 use Rattle.tree.proofs.Steps.{relink-at}
 use borrow.Author.Needs.{needs}
-use Rattle.tree.specs.Links.{relinked, withChild}
+use Rattle.tree.specs.inner.Links.{relinked, withChild}
 use Rattle.tree.proofs.relink.Statement.{statement}
 use Rattle.tree.proofs.relink.Tie as tie
 

@@ -1,7 +1,7 @@
 use native.Mathlib.Omega.{arith}
 use Rattle.arena.proofs.Paths.{paths}
 use borrow.Author.Needs.{needs}
-use Rattle.tree.specs.Links.{sideOf}
+use Rattle.tree.specs.inner.Links.{sideOf}
 use Rattle.tree.proofs.side_of.Statement.{statement}
 use Rattle.tree.proofs.side_of.Tie as tie
 

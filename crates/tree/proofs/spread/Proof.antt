@@ -1,5 +1,5 @@
 use borrow.Author.Needs.{needs}
-use Rattle.tree.specs.Links.{spreadWith}
+use Rattle.tree.specs.inner.Links.{spreadWith}
 use Rattle.tree.proofs.spread.Statement.{statement}
 use Rattle.tree.proofs.spread.Tie as tie
 

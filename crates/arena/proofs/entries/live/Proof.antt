@@ -1,4 +1,4 @@
-use Rattle.arena.specs.Entries.{isLive}
+use Rattle.arena.specs.inner.Entries.{isLive}
 use Rattle.arena.proofs.Paths.{paths}
 use borrow.Author.Needs.{needs}
 use Rattle.arena.proofs.Answers.{live-asks}

@@ -1,4 +1,4 @@
-use Rattle.arena.specs.Entries.{entryPut}
+use Rattle.arena.specs.inner.Entries.{entryPut}
 use borrow.Author.Needs.{needs}
 use Rattle.arena.proofs.entries.put_entry.Statement.{statement}
 use Rattle.arena.proofs.entries.put_entry.Tie as tie

@@ -1,4 +1,4 @@
-use Rattle.arena.specs.Slots.{freeWith}
+use Rattle.arena.specs.inner.Slots.{freeWith}
 use Rattle.arena.proofs.Paths.{paths, wrote}
 use Rattle.arena.proofs.Answers.{free-reads}
 use borrow.Author.Needs.{needs}

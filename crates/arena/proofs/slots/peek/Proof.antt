@@ -1,4 +1,4 @@
-use Rattle.arena.specs.Slots.{foundAt, peekFrom}
+use Rattle.arena.specs.inner.Slots.{foundAt, peekFrom}
 use Rattle.arena.proofs.Answers.{peek-reads, peek-slot, peek-at, found-in}
 use Rattle.arena.proofs.Paths.{paths}
 use borrow.Author.Needs.{needs}

@@ -1,4 +1,4 @@
-use Rattle.arena.specs.Slots.{popped}
+use Rattle.arena.specs.inner.Slots.{popped}
 use borrow.Author.Needs.{needs}
 use Rattle.arena.proofs.slots.pop.Statement.{statement}
 use Rattle.arena.proofs.slots.pop.Tie as tie

@@ -1,5 +1,5 @@
 use Rattle.arena.proofs.Paths.{paths}
-use Rattle.insert.specs.Kinds.{liesOn}
+use Rattle.insert.specs.inner.Kinds.{liesOn}
 use Rattle.insert.proofs.kinds.lies.Statement.{statement}
 use Rattle.insert.proofs.kinds.lies.Tie as tie
 

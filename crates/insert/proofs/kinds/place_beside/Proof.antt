@@ -1,7 +1,7 @@
 use Rattle.arena.proofs.Paths.{paths}
 use native.Mathlib.Omega.{arith}
 use borrow.Author.Needs.{needs}
-use Rattle.insert.specs.Kinds.{placeBeside}
+use Rattle.insert.specs.inner.Kinds.{placeBeside}
 use Rattle.insert.proofs.kinds.place_beside.Statement.{statement}
 use Rattle.insert.proofs.kinds.place_beside.Tie as tie
 

@@ -1,6 +1,6 @@
 use Rattle.arena.proofs.Paths.{paths}
 use borrow.Author.Needs.{needs}
-use Rattle.insert.specs.Kinds.{preparedEmpty}
+use Rattle.insert.specs.inner.Kinds.{preparedEmpty}
 use Rattle.insert.proofs.kinds.prepare_empty.Statement.{statement}
 use Rattle.insert.proofs.kinds.prepare_empty.Tie as tie
 

@@ -1,7 +1,7 @@
 use Rattle.arena.proofs.Paths.{paths}
 use native.Mathlib.Omega.{arith}
 use borrow.Author.Needs.{needs}
-use Rattle.insert.specs.Kinds.{preparedEqual}
+use Rattle.insert.specs.inner.Kinds.{preparedEqual}
 use Rattle.insert.proofs.kinds.prepare_equal.Statement.{statement}
 use Rattle.insert.proofs.kinds.prepare_equal.Tie as tie
 

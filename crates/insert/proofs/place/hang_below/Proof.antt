@@ -1,5 +1,5 @@
 use borrow.Author.Needs.{needs}
-use Rattle.insert.specs.Place.{hung, hungBelow}
+use Rattle.insert.specs.inner.Place.{hung, hungBelow}
 use Rattle.insert.proofs.place.hang_below.Statement.{statement}
 use Rattle.insert.proofs.place.hang_below.Tie as tie
 

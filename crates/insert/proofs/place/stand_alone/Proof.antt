@@ -1,5 +1,5 @@
 use borrow.Author.Needs.{needs}
-use Rattle.insert.specs.Place.{standAlone}
+use Rattle.insert.specs.inner.Place.{standAlone}
 use Rattle.insert.proofs.place.stand_alone.Statement.{statement}
 use Rattle.insert.proofs.place.stand_alone.Tie as tie
 

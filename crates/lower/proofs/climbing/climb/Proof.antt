@@ -3,7 +3,7 @@ use Prim.Native.Nat.{_-_, _≤_, _<_}
 use native.Mathlib.Omega.{arith}
 use borrow.Author.Needs.{needs}
 use lib.ListN.{length}
-use Rattle.lower.specs.Climb.{climbFrom}
+use Rattle.lower.specs.inner.Climb.{climbFrom}
 use Rattle.tree.proofs.Climb.{up-low, up-side}
 use Rattle.lower.proofs.ClimbLoop.{again, ended, refused, spent}
 use Rattle.lower.proofs.climbing.climb.Statement.{statement}

@@ -1,5 +1,5 @@
 use Rattle.arena.proofs.Paths.{paths}
-use Rattle.lower.specs.Climb.{climbAtWith}
+use Rattle.lower.specs.inner.Climb.{climbAtWith}
 use Rattle.lower.proofs.ClimbReads.{at-reads}
 use borrow.Author.Needs.{needs}
 use Rattle.lower.proofs.climbing.climb_at.Statement.{statement}

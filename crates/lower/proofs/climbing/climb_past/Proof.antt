@@ -1,5 +1,5 @@
 use Rattle.arena.proofs.Paths.{paths, wrote}
-use Rattle.lower.specs.Climb.{climbPastWith}
+use Rattle.lower.specs.inner.Climb.{climbPastWith}
 use Rattle.lower.proofs.ClimbReads.{past-reads, past-both}
 use borrow.Author.Needs.{needs}
 use Rattle.lower.proofs.climbing.climb_past.Statement.{statement}

@@ -1,5 +1,5 @@
 use Rattle.arena.proofs.Paths.{paths}
-use Rattle.lower.specs.Climb.{climbTurnWith}
+use Rattle.lower.specs.inner.Climb.{climbTurnWith}
 use Rattle.lower.proofs.ClimbReads.{turn-reads, turn-fits}
 use borrow.Author.Needs.{needs}
 use Rattle.lower.proofs.climbing.climb_turn.Statement.{statement}

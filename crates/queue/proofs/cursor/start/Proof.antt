@@ -1,5 +1,5 @@
 use Rattle.arena.proofs.Answers.{passes-room}
-use Rattle.queue.specs.Moving.{startCall}
+use Rattle.queue.specs.inner.Moving.{startCall}
 use Rattle.queue.proofs.Answers.{on-passes, on-fails, moved-by}
 use borrow.Author.Needs.{needs}
 use Rattle.queue.proofs.cursor.start.Statement.{statement}

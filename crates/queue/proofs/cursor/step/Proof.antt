@@ -1,5 +1,5 @@
 use Rattle.arena.proofs.Answers.{passes-room}
-use Rattle.queue.specs.Moving.{stepCall}
+use Rattle.queue.specs.inner.Moving.{stepCall}
 use Rattle.queue.proofs.Answers.{on-passes, on-fails}
 use borrow.Author.Needs.{needs}
 use Rattle.queue.proofs.cursor.step.Statement.{statement}

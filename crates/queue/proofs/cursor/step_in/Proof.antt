@@ -1,4 +1,4 @@
-use Rattle.queue.specs.Moving.{stepIn}
+use Rattle.queue.specs.inner.Moving.{stepIn}
 use Rattle.queue.proofs.Answers.{live-slot, if-live, if-dead, moved-by}
 use borrow.Author.Needs.{needs}
 use Rattle.queue.proofs.cursor.step_in.Statement.{statement}

@@ -1,4 +1,4 @@
-use Rattle.queue.specs.Looking.{handleAt}
+use Rattle.queue.specs.inner.Looking.{handleAt}
 use Rattle.arena.proofs.Answers.{handle-is}
 use borrow.Author.Needs.{needs}
 use Rattle.queue.proofs.looking.handle_at.Statement.{statement}

@@ -1,5 +1,5 @@
 use Rattle.arena.proofs.Answers.{passes-room}
-use Rattle.queue.specs.Looking.{readCall}
+use Rattle.queue.specs.inner.Looking.{readCall}
 use Rattle.queue.proofs.Answers.{on-passes, on-fails}
 use Rattle.queue.proofs.Promising.{read-looks}
 use borrow.Author.Needs.{needs}

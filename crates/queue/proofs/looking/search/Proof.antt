@@ -1,5 +1,5 @@
 use Rattle.arena.proofs.Answers.{passes-room}
-use Rattle.queue.specs.Looking.{searchCall}
+use Rattle.queue.specs.inner.Looking.{searchCall}
 use Rattle.queue.proofs.Answers.{on-passes, on-fails, searched-key}
 use Rattle.queue.proofs.Promising.{search-looks}
 use borrow.Author.Needs.{needs}

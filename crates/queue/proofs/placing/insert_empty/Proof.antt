@@ -1,5 +1,5 @@
 use Rattle.arena.proofs.Answers.{passes-room}
-use Rattle.queue.specs.Placing.{emptyCall}
+use Rattle.queue.specs.inner.Placing.{emptyCall}
 use Rattle.queue.proofs.Answers.{on-passes, on-fails}
 use Rattle.queue.proofs.Promising.{empty-writes}
 use borrow.Author.Needs.{needs}

@@ -1,5 +1,5 @@
 use Rattle.arena.proofs.Answers.{passes-room}
-use Rattle.queue.specs.Placing.{aheadEmptyCall}
+use Rattle.queue.specs.inner.Placing.{aheadEmptyCall}
 use Rattle.queue.proofs.Answers.{on-passes, on-fails}
 use Rattle.queue.proofs.Promising.{ahead-empty-looks}
 use borrow.Author.Needs.{needs}

@@ -1,5 +1,5 @@
 use Rattle.arena.proofs.Answers.{passes-room}
-use Rattle.queue.specs.Placing.{aheadManualCall}
+use Rattle.queue.specs.inner.Placing.{aheadManualCall}
 use Rattle.queue.proofs.Answers.{on-passes, on-fails}
 use Rattle.queue.proofs.Promising.{ahead-manual-looks}
 use borrow.Author.Needs.{needs}

@@ -1,5 +1,5 @@
 use Rattle.arena.proofs.Answers.{passes-room}
-use Rattle.queue.specs.Taking.{removeCall}
+use Rattle.queue.specs.inner.Taking.{removeCall}
 use Rattle.queue.proofs.Answers.{on-passes, on-fails}
 use Rattle.queue.proofs.Promising.{remove-writes}
 use borrow.Author.Needs.{needs}

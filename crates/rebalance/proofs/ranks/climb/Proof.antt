@@ -3,7 +3,7 @@ use Prim.Native.Nat.{_-_, _≤_, _<_}
 use native.Mathlib.Omega.{arith}
 use borrow.Author.Needs.{needs}
 use lib.ListN.{length}
-use Rattle.rebalance.specs.Ranks.{budget, climbFrom}
+use Rattle.rebalance.specs.inner.Ranks.{budget, climbFrom}
 use Rattle.tree.proofs.Climb.{up-low, up-side}
 use Rattle.rebalance.proofs.Climbs.{again, ended, refused, spent}
 use Rattle.rebalance.proofs.ranks.climb.Statement.{statement}

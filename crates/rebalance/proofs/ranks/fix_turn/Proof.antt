@@ -1,5 +1,5 @@
 use Rattle.arena.proofs.Paths.{paths}
-use Rattle.rebalance.specs.Ranks.{fixWith}
+use Rattle.rebalance.specs.inner.Ranks.{fixWith}
 use Rattle.rebalance.proofs.Fixes.{fix-reads, fix-low, fix-same, fix-across}
 use borrow.Author.Needs.{needs}
 use Rattle.rebalance.proofs.ranks.fix_turn.Statement.{statement}

@@ -1,5 +1,5 @@
 use borrow.Author.Needs.{needs}
-use Rattle.rebalance.specs.Turns.{liftedOne}
+use Rattle.rebalance.specs.inner.Turns.{liftedOne}
 use Rattle.rebalance.proofs.turns.lift_one.Statement.{statement}
 use Rattle.rebalance.proofs.turns.lift_one.Tie as tie
 

@@ -1,5 +1,5 @@
 use borrow.Author.Needs.{needs}
-use Rattle.rebalance.specs.Turns.{spreadBelow}
+use Rattle.rebalance.specs.inner.Turns.{spreadBelow}
 use Rattle.rebalance.proofs.turns.spread_below.Statement.{statement}
 use Rattle.rebalance.proofs.turns.spread_below.Tie as tie
 

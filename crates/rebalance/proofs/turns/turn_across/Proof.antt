@@ -1,5 +1,5 @@
 use borrow.Author.Needs.{needs}
-use Rattle.rebalance.specs.Turns.{turnedAcross}
+use Rattle.rebalance.specs.inner.Turns.{turnedAcross}
 use Rattle.rebalance.proofs.turns.turn_across.Statement.{statement}
 use Rattle.rebalance.proofs.turns.turn_across.Tie as tie
 

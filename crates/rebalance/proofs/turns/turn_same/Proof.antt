@@ -1,5 +1,5 @@
 use borrow.Author.Needs.{needs}
-use Rattle.rebalance.specs.Turns.{turnedSame}
+use Rattle.rebalance.specs.inner.Turns.{turnedSame}
 use Rattle.rebalance.proofs.turns.turn_same.Statement.{statement}
 use Rattle.rebalance.proofs.turns.turn_same.Tie as tie
 

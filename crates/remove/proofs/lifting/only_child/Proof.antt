@@ -1,5 +1,5 @@
 use Rattle.arena.proofs.Paths.{paths}
-use Rattle.remove.specs.Lift.{onlyChild}
+use Rattle.remove.specs.inner.Lift.{onlyChild}
 use borrow.Author.Needs.{needs}
 use Rattle.remove.proofs.lifting.only_child.Statement.{statement}
 use Rattle.remove.proofs.lifting.only_child.Tie as tie

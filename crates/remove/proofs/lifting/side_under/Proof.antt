@@ -1,5 +1,5 @@
 use Rattle.arena.proofs.Paths.{paths}
-use Rattle.remove.specs.Lift.{sideUnder}
+use Rattle.remove.specs.inner.Lift.{sideUnder}
 use borrow.Author.Needs.{needs}
 use Rattle.remove.proofs.lifting.side_under.Statement.{statement}
 use Rattle.remove.proofs.lifting.side_under.Tie as tie

@@ -1,5 +1,5 @@
 use Rattle.arena.proofs.Paths.{paths, tested}
-use Rattle.remove.specs.Remove.{readBy}
+use Rattle.remove.specs.inner.Remove.{readBy}
 use Rattle.remove.proofs.RemoveReads.{live-low, read-entry}
 use native.Mathlib.Omega.{arith}
 use borrow.Author.Needs.{needs}

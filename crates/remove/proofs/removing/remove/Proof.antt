@@ -1,5 +1,5 @@
 use Rattle.arena.proofs.Paths.{paths, tested}
-use Rattle.remove.specs.Remove.{removeBy}
+use Rattle.remove.specs.inner.Remove.{removeBy}
 use Rattle.remove.proofs.RemoveReads.{live-low}
 use native.Mathlib.Omega.{arith}
 use borrow.Author.Needs.{needs}

@@ -1,5 +1,5 @@
 use Rattle.arena.proofs.Paths.{paths}
-use Rattle.remove.specs.Take.{isChildless}
+use Rattle.remove.specs.inner.Take.{isChildless}
 use Rattle.remove.proofs.TakeReads.{childless-asks}
 use borrow.Author.Needs.{needs}
 use Rattle.remove.proofs.taking.childless.Statement.{statement}

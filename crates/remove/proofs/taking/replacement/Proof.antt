@@ -1,5 +1,5 @@
 use Rattle.arena.proofs.Paths.{paths}
-use Rattle.remove.specs.Take.{replacementOf}
+use Rattle.remove.specs.inner.Take.{replacementOf}
 use borrow.Author.Needs.{needs}
 use Rattle.remove.proofs.taking.replacement.Statement.{statement}
 use Rattle.remove.proofs.taking.replacement.Tie as tie

@@ -1,5 +1,5 @@
 use Rattle.arena.proofs.Paths.{paths, tested}
-use Rattle.remove.specs.Take.{settleAt}
+use Rattle.remove.specs.inner.Take.{settleAt}
 use borrow.Author.Needs.{needs}
 use Rattle.remove.proofs.taking.settle.Statement.{statement}
 use Rattle.remove.proofs.taking.settle.Tie as tie

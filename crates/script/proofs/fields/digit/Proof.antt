@@ -1,6 +1,6 @@
 use Rattle.script.proofs.Reading.{digit-is}
 use Rattle.arena.proofs.Paths.{paths}
-use Rattle.script.specs.Numbers.{digitOf}
+use Rattle.script.specs.inner.Numbers.{digitOf}
 use borrow.Author.Needs.{needs}
 use Rattle.script.proofs.fields.digit.Statement.{statement}
 use Rattle.script.proofs.fields.digit.Tie as tie

@@ -3,7 +3,7 @@ use mathlib.Core.Path.{_≡_}
 use lib.ListN.{length}
 use native.Mathlib.Omega.{arith}
 use Rattle.script.proofs.Cutting.{cutting}
-use Rattle.script.specs.Fields.{passed}
+use Rattle.script.specs.inner.Fields.{passed}
 use borrow.Author.Needs.{needs}
 use Rattle.script.proofs.fields.find_space.Statement.{statement}
 use Rattle.script.proofs.fields.find_space.Tie as tie

@@ -1,6 +1,6 @@
 use Rattle.arena.proofs.Paths.{paths}
 use Rattle.script.proofs.Signs.{no-side-so, side-so}
-use Rattle.script.specs.Numbers.{sideAt}
+use Rattle.script.specs.inner.Numbers.{sideAt}
 use borrow.Author.Needs.{needs}
 use Rattle.script.proofs.fields.side.Statement.{statement}
 use Rattle.script.proofs.fields.side.Tie as tie

@@ -1,6 +1,6 @@
 use Rattle.script.proofs.Signs.{minus-so, plain-so}
 use Rattle.arena.proofs.Paths.{paths}
-use Rattle.script.specs.Numbers.{signedOf}
+use Rattle.script.specs.inner.Numbers.{signedOf}
 use borrow.Author.Needs.{needs}
 use Rattle.script.proofs.fields.signed.Statement.{statement}
 use Rattle.script.proofs.fields.signed.Tie as tie

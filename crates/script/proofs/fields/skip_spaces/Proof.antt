@@ -3,7 +3,7 @@ use mathlib.Core.Path.{_≡_}
 use lib.ListN.{length}
 use native.Mathlib.Omega.{arith}
 use Rattle.script.proofs.Cutting.{cutting}
-use Rattle.script.specs.Fields.{skipped}
+use Rattle.script.specs.inner.Fields.{skipped}
 use borrow.Author.Needs.{needs}
 use Rattle.script.proofs.fields.skip_spaces.Statement.{statement}
 use Rattle.script.proofs.fields.skip_spaces.Tie as tie

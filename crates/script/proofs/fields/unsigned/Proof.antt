@@ -3,7 +3,7 @@ use mathlib.Core.Path.{_≡_}
 use lib.ListN.{length, drop}
 use Rattle.arena.proofs.Paths.{paths}
 use Rattle.script.proofs.Reading.{read-no-digit, read-tens-over, read-digit-over, read-more, read-end}
-use Rattle.script.specs.Numbers.{readOn, unsignedOf}
+use Rattle.script.specs.inner.Numbers.{readOn, unsignedOf}
 use borrow.Author.Needs.{needs}
 use Rattle.script.proofs.fields.unsigned.Statement.{statement}
 use Rattle.script.proofs.fields.unsigned.Tie as tie

@@ -1,5 +1,5 @@
 use Rattle.arena.proofs.Paths.{paths}
-use Rattle.sound.specs.Joints.{afterOf}
+use Rattle.sound.specs.inner.Joints.{afterOf}
 use borrow.Author.Needs.{needs}
 use Rattle.sound.proofs.joints.after.Statement.{statement}
 use Rattle.sound.proofs.joints.after.Tie as tie

@@ -1,5 +1,5 @@
 use Rattle.arena.proofs.Paths.{paths}
-use Rattle.sound.specs.Joints.{beforeOf}
+use Rattle.sound.specs.inner.Joints.{beforeOf}
 use borrow.Author.Needs.{needs}
 use Rattle.sound.proofs.joints.before.Statement.{statement}
 use Rattle.sound.proofs.joints.before.Tie as tie

@@ -1,5 +1,5 @@
 use Rattle.arena.proofs.Paths.{paths}
-use Rattle.sound.specs.Joints.{joinTest}
+use Rattle.sound.specs.inner.Joints.{joinTest}
 use borrow.Author.Needs.{needs}
 use Rattle.sound.proofs.joints.joins.Statement.{statement}
 use Rattle.sound.proofs.joints.joins.Tie as tie

@@ -1,6 +1,6 @@
 use Rattle.sound.proofs.Answers.{lt-asks}
 use Rattle.arena.proofs.Paths.{paths}
-use Rattle.sound.specs.Joints.{risesTest}
+use Rattle.sound.specs.inner.Joints.{risesTest}
 use borrow.Author.Needs.{needs}
 use Rattle.sound.proofs.joints.rises.Statement.{statement}
 use Rattle.sound.proofs.joints.rises.Tie as tie

@@ -1,5 +1,5 @@
 use Rattle.arena.proofs.Paths.{paths}
-use Rattle.sound.specs.Nodes.{fitsTest}
+use Rattle.sound.specs.inner.Nodes.{fitsTest}
 use borrow.Author.Needs.{needs}
 use Rattle.sound.proofs.nodes.fits.Statement.{statement}
 use Rattle.sound.proofs.nodes.fits.Tie as tie

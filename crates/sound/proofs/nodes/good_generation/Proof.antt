@@ -1,5 +1,5 @@
 use Rattle.arena.proofs.Paths.{paths}
-use Rattle.sound.specs.Nodes.{generationTest}
+use Rattle.sound.specs.inner.Nodes.{generationTest}
 use Rattle.sound.proofs.nodes.good_generation.Statement.{statement}
 use Rattle.sound.proofs.nodes.good_generation.Tie as tie
 

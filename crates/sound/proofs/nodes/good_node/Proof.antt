@@ -1,6 +1,6 @@
 use Rattle.sound.proofs.Answers.{generation-asks}
 use Rattle.arena.proofs.Paths.{paths}
-use Rattle.sound.specs.Nodes.{nodeTest}
+use Rattle.sound.specs.inner.Nodes.{nodeTest}
 use borrow.Author.Needs.{needs}
 use Rattle.sound.proofs.nodes.good_node.Statement.{statement}
 use Rattle.sound.proofs.nodes.good_node.Tie as tie

@@ -1,6 +1,6 @@
 use Rattle.arena.proofs.Paths.{paths}
 use Rattle.sound.proofs.Answers.{rest-reads}
-use Rattle.sound.specs.Slots.{restWith}
+use Rattle.sound.specs.inner.Slots.{restWith}
 use borrow.Author.Needs.{needs}
 use Rattle.sound.proofs.slots.at_rest.Statement.{statement}
 use Rattle.sound.proofs.slots.at_rest.Tie as tie

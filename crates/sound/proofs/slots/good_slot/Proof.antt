@@ -1,5 +1,5 @@
 use Rattle.arena.proofs.Paths.{paths, tested}
-use Rattle.sound.specs.Slots.{slotTest}
+use Rattle.sound.specs.inner.Slots.{slotTest}
 use borrow.Author.Needs.{needs}
 use Rattle.sound.proofs.slots.good_slot.Statement.{statement}
 use Rattle.sound.proofs.slots.good_slot.Tie as tie

@@ -1,6 +1,6 @@
 use Rattle.arena.proofs.Paths.{paths}
 use Rattle.sound.proofs.Answers.{eq-asks, hangs-reads}
-use Rattle.sound.specs.Slots.{hangsWith}
+use Rattle.sound.specs.inner.Slots.{hangsWith}
 use borrow.Author.Needs.{needs}
 use Rattle.sound.proofs.slots.hangs.Statement.{statement}
 use Rattle.sound.proofs.slots.hangs.Tie as tie

@@ -1,5 +1,5 @@
 use Rattle.arena.proofs.Paths.{paths}
-use Rattle.sound.specs.Slots.{blankTest}
+use Rattle.sound.specs.inner.Slots.{blankTest}
 use borrow.Author.Needs.{needs}
 use Rattle.sound.proofs.slots.is_blank.Statement.{statement}
 use Rattle.sound.proofs.slots.is_blank.Tie as tie

@@ -1,6 +1,6 @@
 use Rattle.sound.proofs.Answers.{eq-asks}
 use Rattle.arena.proofs.Paths.{paths}
-use Rattle.sound.specs.Slots.{childTest}
+use Rattle.sound.specs.inner.Slots.{childTest}
 use borrow.Author.Needs.{needs}
 use Rattle.sound.proofs.slots.is_child.Statement.{statement}
 use Rattle.sound.proofs.slots.is_child.Tie as tie

@@ -1,5 +1,5 @@
 use Rattle.arena.proofs.Paths.{paths}
-use Rattle.sound.specs.Slots.{unlinkedTest}
+use Rattle.sound.specs.inner.Slots.{unlinkedTest}
 use borrow.Author.Needs.{needs}
 use Rattle.sound.proofs.slots.unlinked.Statement.{statement}
 use Rattle.sound.proofs.slots.unlinked.Tie as tie

@@ -1,5 +1,5 @@
 use Rattle.arena.proofs.Answers.{passes-room}
-use Rattle.queue.specs.Moving.{standCall, standIn}
+use Rattle.queue.specs.inner.Moving.{standCall, standIn}
 use Rattle.queue.proofs.Answers.{on-passes, on-fails, if-live, if-dead}
 use Rattle.queue.proofs.Promising.{stand-looks}
 use borrow.Author.Needs.{needs}

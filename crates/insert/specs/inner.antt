@@ -1,0 +1,5 @@
+-- Models, and what serves proofs alone: nothing in this folder need be believed (docs/TRUST.md).
+pub mod Ahead
+pub mod Kept
+pub mod Kinds
+pub mod Place

@@ -1,0 +1,5 @@
+-- Models, and what serves proofs alone: nothing in this folder need be believed (docs/TRUST.md).
+pub mod Lift
+pub mod Take
+pub mod Remove
+pub mod Kept

@@ -1,0 +1,7 @@
+-- Models, and what serves proofs alone: nothing in this folder need be believed (docs/TRUST.md).
+pub mod Nodes
+pub mod Joints
+pub mod Walking
+pub mod Slots
+pub mod Check
+pub mod Visits
