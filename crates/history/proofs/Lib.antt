@@ -1,10 +1,7 @@
 -- What is proved of a history. For a reader: Demand3 (every list of calls), Nothing (refused and looking calls), Followed (what a
--- store has to show) and Sample (one history written out); the other modules lead up to these.
-pub mod Sample
 pub mod After
 pub mod Shuffle
 pub mod Same
-pub mod Counts
 pub mod Live
 pub mod Passed
 pub mod Induction

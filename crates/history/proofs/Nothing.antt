@@ -1,90 +1,39 @@
--- "Each refusal returns its number alone and changes nothing"; search, reading, stepping and look-ahead change nothing either.
--- A reader may rely on changes-nothing for every call and every queue, sound or not.
-use mathlib.Core.Path.{_≡_, refl, ap, _∙_}
-use mathlib.Core.Logic.{_⊎_, inl, inr}
-use mathlib.Core.List.{[], _∷_, _++_}
+-- "Each refusal returns its number alone and changes nothing"; search, reading, stepping, look-ahead and check change nothing either.
+-- A reader may rely on changes-nothing for every call and every queue, sound or not: an answer that tells nothing has changed nothing.
+use mathlib.Core.Path.{_≡_, refl, sym}
+use mathlib.Core.Bool.{Bool, true, false}
 use Prim.Native.Nat.{ℕ}
+use native.Mathlib.Omega.{arith}
 use Rattle.rules.specs.Queue.{Handle, Queue}
 use Rattle.rules.specs.Answers.{Inserted, new, replacing, notInserted, Removed, removed, notRemoved}
-use Rattle.rules.specs.Insert.{insertNormal, insertEmpty, insertManual}
+use Rattle.rules.specs.LayOut.{good, laidBy, layOut}
+use Rattle.rules.specs.Insert.{Kind, insert}
 use Rattle.rules.specs.Remove.{remove}
-use Rattle.rules.specs.Calls.{Call, normal, onEmpty, manual, lookNormal, lookEmpty, lookManual, removal, reading, searching, toFirst, toLast, toNext, toPrev, insertion, taken, answer}
-use Rattle.rules.proofs.Unchanged.{normal-unchanged, empty-unchanged, manual-unchanged, remove-unchanged}
-use Rattle.history.specs.Deed.{Event, History, Deed, nothing, byInsertion, byRemoval, deed, deedOf}
-use Rattle.history.specs.Left.{does, left}
-use Rattle.history.specs.Demand.{Refusal, Looks}
-use Rattle.history.proofs.Induction.{leaves-then}
+use Rattle.rules.specs.Calls.{Call, inserts, removal, layingOut, looks, answer}
+use Rattle.rules.proofs.Unchanged.{insert-unchanged, remove-unchanged}
+use Rattle.history.specs.Deed.{nothing, deed}
 
--- the queue stays, and the answer tells nothing
-pub record Unchanged (c : Call) (q : Queue) : Type 0 where
-  pub same-queue : answer c q .1 ≡ q
-  pub tells-nothing : deed c (answer c q .0) ≡ nothing
+module _ (q : Queue) where
+  inserting : (kind : Kind) (key value : ℕ) (a : Inserted) → insert kind key value q .0 ≡ a → deed (inserts kind key value) a ≡ nothing
+      → insert kind key value q .1 ≡ q
+  unfolding deed
+  inserting kind key value (new h) e n = absurd (let z : _≡_ {A = ℕ} 0 1 = cc in omega arith)
+  inserting kind key value (replacing h v) e n = absurd (let z : _≡_ {A = ℕ} 0 1 = cc in omega arith)
+  inserting kind key value (notInserted m) e n = insert-unchanged key q kind value m e
 
-inserted-number : (a : Inserted) → Refusal (insertion a) → (n : ℕ) × (a ≡ notInserted n)
-inserted-number (new h) r = absurd r
-inserted-number (replacing h v) r = absurd r
-inserted-number (notInserted n) r = (n, refl)
+  removing : (h : Handle) (a : Removed) → remove h q .0 ≡ a → deed (removal h) a ≡ nothing → remove h q .1 ≡ q
+  unfolding deed
+  removing h (removed k v m) e n = absurd (let z : _≡_ {A = ℕ} 0 1 = cc in omega arith)
+  removing h (notRemoved m) e n = remove-unchanged h q m e
 
-inserted-nothing : (key value : ℕ) (a : Inserted) → Refusal (insertion a) → byInsertion key value (insertion a) ≡ nothing
-unfolding byInsertion
-inserted-nothing key value (new h) r = absurd r
-inserted-nothing key value (replacing h v) r = absurd r
-inserted-nothing key value (notInserted n) r = refl
+  laying : (capacity top : ℕ) (b : Bool) → deed (layingOut capacity top) (laidBy b capacity top q .0) ≡ nothing → laidBy b capacity top q .1 ≡ q
+  unfolding deed
+  laying capacity top true n = absurd (let z : _≡_ {A = ℕ} 0 1 = cc in omega arith)
+  laying capacity top false n = refl
 
-removed-number : (a : Removed) → Refusal (taken a) → (n : ℕ) × (a ≡ notRemoved n)
-removed-number (removed k v n) r = absurd r
-removed-number (notRemoved n) r = (n, refl)
-
-removed-nothing : (h : Handle) (a : Removed) → Refusal (taken a) → byRemoval h (taken a) ≡ nothing
-unfolding byRemoval
-removed-nothing h (removed k v n) r = absurd r
-removed-nothing h (notRemoved n) r = refl
-
-looks-unchanged : (c : Call) (q : Queue) → Looks c → Unchanged c q
-unfolding answer deed
-looks-unchanged (normal k v) q l = absurd l
-looks-unchanged (onEmpty k v) q l = absurd l
-looks-unchanged (manual h w k v) q l = absurd l
-looks-unchanged (lookNormal k) q l = record { same-queue = refl; tells-nothing = refl }
-looks-unchanged (lookEmpty k) q l = record { same-queue = refl; tells-nothing = refl }
-looks-unchanged (lookManual h w k) q l = record { same-queue = refl; tells-nothing = refl }
-looks-unchanged (removal h) q l = absurd l
-looks-unchanged (reading h) q l = record { same-queue = refl; tells-nothing = refl }
-looks-unchanged (searching k) q l = record { same-queue = refl; tells-nothing = refl }
-looks-unchanged toFirst q l = record { same-queue = refl; tells-nothing = refl }
-looks-unchanged toLast q l = record { same-queue = refl; tells-nothing = refl }
-looks-unchanged (toNext h) q l = record { same-queue = refl; tells-nothing = refl }
-looks-unchanged (toPrev h) q l = record { same-queue = refl; tells-nothing = refl }
-
-refusal-unchanged : (c : Call) (q : Queue) → Refusal (answer c q .0) → Unchanged c q
-unfolding answer deed
-refusal-unchanged (normal k v) q r =
-    let n = inserted-number (insertNormal k v q .0) r in
-    record { same-queue = normal-unchanged k q v (n .0) (n .1); tells-nothing = inserted-nothing k v (insertNormal k v q .0) r }
-refusal-unchanged (onEmpty k v) q r =
-    let n = inserted-number (insertEmpty k v q .0) r in
-    record { same-queue = empty-unchanged k q v (n .0) (n .1); tells-nothing = inserted-nothing k v (insertEmpty k v q .0) r }
-refusal-unchanged (manual h w k v) q r =
-    let n = inserted-number (insertManual h w k v q .0) r in
-    record { same-queue = manual-unchanged k q h w v (n .0) (n .1); tells-nothing = inserted-nothing k v (insertManual h w k v q .0) r }
-refusal-unchanged (lookNormal k) q r = looks-unchanged (lookNormal k) q tt
-refusal-unchanged (lookEmpty k) q r = looks-unchanged (lookEmpty k) q tt
-refusal-unchanged (lookManual h w k) q r = looks-unchanged (lookManual h w k) q tt
-refusal-unchanged (removal h) q r =
-    let n = removed-number (remove h q .0) r in
-    record { same-queue = remove-unchanged h q (n .0) (n .1); tells-nothing = removed-nothing h (remove h q .0) r }
-refusal-unchanged (reading h) q r = looks-unchanged (reading h) q tt
-refusal-unchanged (searching k) q r = looks-unchanged (searching k) q tt
-refusal-unchanged toFirst q r = looks-unchanged toFirst q tt
-refusal-unchanged toLast q r = looks-unchanged toLast q tt
-refusal-unchanged (toNext h) q r = looks-unchanged (toNext h) q tt
-refusal-unchanged (toPrev h) q r = looks-unchanged (toPrev h) q tt
-
-pub changes-nothing : (c : Call) (q : Queue) → Refusal (answer c q .0) ⊎ Looks c → Unchanged c q
-changes-nothing c q (inl r) = refusal-unchanged c q r
-changes-nothing c q (inr l) = looks-unchanged c q l
-
--- and an answer that tells nothing leaves what the history leaves
-pub nothing-left : (h : History) (e : Event) → deedOf e ≡ nothing → left (h ++ (e ∷ [])) ≡ left h
-unfolding does
-nothing-left h e n = leaves-then [] h e ∙ ap (λ (d : Deed). does d (left h)) n
+  pub changes-nothing : (enough : ℕ → Bool) (c : Call) → deed c (answer enough c q .0) ≡ nothing → answer enough c q .1 ≡ q
+  unfolding answer layOut
+  changes-nothing enough (inserts kind k v) n = inserting kind k v (insert kind k v q .0) refl n
+  changes-nothing enough (removal h) n = removing h (remove h q .0) refl n
+  changes-nothing enough (layingOut capacity top) n = laying capacity top (good enough capacity top) n
+  changes-nothing enough (looks l) n = refl

@@ -1,5 +1,5 @@
 -- Why no handle is given twice: the generation of a slot never falls, and a free handle lies above every one given before.
--- A reader may rely on after-aged, for every deed and every sound queue before and after it.
+-- A reader may rely on adds-aged, swaps-aged and takes-aged, and on taken-passed and free-not-aged, for every sound queue.
 use mathlib.Core.Path.{_≡_, refl, sym, ap, _∙_}
 use mathlib.Core.Logic.{_⊎_, inl, inr}
 use mathlib.Core.List.{List, [], _∷_, _++_}
@@ -18,9 +18,6 @@ use Rattle.rules.proofs.Lists.{in-put, in-drop}
 use Rattle.rules.proofs.Places.{slot-unique}
 use Rattle.rules.proofs.Removing.{live-once}
 use Rattle.rules.proofs.Handles.{adds-handle, takes-handle}
-use Rattle.history.specs.Deed.{Deed, adds, replaces, takesOut, nothing}
-use Rattle.history.specs.Left.{gives, drops}
-use Rattle.history.proofs.After.{After}
 
 -- the slot of a given handle is now at its generation or above (n = 0), or above it (n = 1); a free one is above it in any case
 pub record Aged (n : ℕ) (q : Queue) (g : Handle) : Type 0 where
@@ -60,7 +57,7 @@ freed-in (yes h) s l f i = i
 freed-in (no h) s l f i = inr i
 
 module _ (n : ℕ) (small : n ≤ 1) (g : Handle) (q q′ : Queue) (a : Aged n q g) where
-  adds-aged : (h : Handle) (key value : ℕ) → Adds q q′ h key value → Aged n q′ g
+  pub adds-aged : (h : Handle) (key value : ℕ) → Adds q q′ h key value → Aged n q′ g
   adds-aged h key value c = record {
     live = λ x i e. old x e (in-drop x (c .smaller) (entryWith h key value) (c .greater) (rw (c .now) at i));
     free = λ f i e. a .free f (rw (c .was-free) (inr i)) e;
@@ -73,7 +70,7 @@ module _ (n : ℕ) (small : n ≤ 1) (g : Handle) (q q′ : Queue) (a : Aged n q
           omega arith
       old x e (inr i) = a .live x (rw (c .old) i) e
 
-  swaps-aged : (y : Entry) (value : ℕ) → Swaps q q′ y value → Aged n q′ g
+  pub swaps-aged : (y : Entry) (value : ℕ) → Swaps q q′ y value → Aged n q′ g
   swaps-aged y value c = record {
     live = λ x i e. old x e (in-drop x (c .smaller) (revalued value y) (c .greater) (rw (c .now) at i));
     free = λ f i e. a .free f (rw (c .same-free) at i) e;
@@ -86,7 +83,7 @@ module _ (n : ℕ) (small : n ≤ 1) (g : Handle) (q q′ : Queue) (a : Aged n q
           omega arith
       old x e (inr i) = a .live x (rw (c .old) (in-put x (c .smaller) y (c .greater) i)) e
 
-  takes-aged : (y : Entry) → Takes q q′ y → Aged n q′ g
+  pub takes-aged : (y : Entry) → Takes q q′ y → Aged n q′ g
   takes-aged y c = record {
     live = λ x i e. a .live x (rw (c .old) (in-put x (c .smaller) y (c .greater) (rw (c .now) at i))) e;
     free = λ f i e. old f e (freed-in (decLt (y .generation) (q .top)) (y .slot) (q .free) f (rw (c .gives-back) at i));
@@ -99,22 +96,8 @@ module _ (n : ℕ) (small : n ≤ 1) (g : Handle) (q q′ : Queue) (a : Aged n q
           omega arith
       old f e (inr i) = a .free f i e
 
-  pub after-aged : (d : Deed) → After d q q′ → Aged n q′ g
-  after-aged (adds h key value) c = adds-aged h key value c
-  after-aged (replaces h value) c = swaps-aged (c .old) value (c .swaps)
-  after-aged (takesOut h note) c = takes-aged (c .out) (c .takes)
-  after-aged nothing c = rw c a
-
--- a handle just given is at its slot's generation
-pub after-given : (d : Deed) (q q′ : Queue) → Sound q → Sound q′ → After d q q′ → All (Aged 0 q′) (gives d)
-unfolding gives
-after-given (adds h key value) q q′ s s′ c = (live-aged s′ (entryWith h key value) (adds-handle s c .names-new), tt)
-after-given (replaces h value) q q′ s s′ c = tt
-after-given (takesOut h note) q q′ s s′ c = tt
-after-given nothing q q′ s s′ c = tt
-
 -- a handle just taken out is passed
-taken-passed : {q q′ : Queue} (h : Handle) (y : Entry) → Sound q → Names h y → Takes q q′ y → Aged 1 q′ h
+pub taken-passed : {q q′ : Queue} (h : Handle) (y : Entry) → Sound q → Names h y → Takes q q′ y → Aged 1 q′ h
 taken-passed {q} {q′} h y s n c = record {
   live = λ x i e. absurd (gone .others x .0 i .1 (same x i e));
   free = λ f i e. above f e (freed-in (decLt (y .generation) (q .top)) (y .slot) (q .free) f (rw (c .gives-back) at i));
@@ -129,19 +112,3 @@ taken-passed {q} {q′} h y s n c = record {
     above : (f : Handle) → f .slot ≡ h .slot → (f ≡ handle (y .slot) (suc (y .generation))) ⊎ In f (q .free) → h .generation < f .generation
     above f e (inl i) = let z = n .1 in let k = ap (λ (w : Handle). w .generation) i in omega arith
     above f e (inr i) = absurd (live-not-free s y (gone .was-there) f i (n .0 ∙ sym e))
-
-pub after-gone : (d : Deed) (q q′ : Queue) → Sound q → After d q q′ → All (Aged 1 q′) (drops d)
-unfolding drops
-after-gone (adds h key value) q q′ s c = tt
-after-gone (replaces h value) q q′ s c = tt
-after-gone (takesOut h note) q q′ s c = (taken-passed h (c .out) s (c .named) (c .takes), tt)
-after-gone nothing q q′ s c = tt
-
--- what is given now was never given: it was free
-pub after-new : (d : Deed) (q q′ : Queue) → After d q q′ → (l : List Handle) → All (Aged 0 q) l → All (λ g. All (λ k. ¬ (k ≡ g)) l) (gives d)
-unfolding gives
-after-new (adds h key value) q q′ c l a =
-    (all-map _ _ (λ k m e. free-not-aged h (rw (c .was-free) (inl refl)) (rw e at m)) l a, tt)
-after-new (replaces h value) q q′ c l a = tt
-after-new (takesOut h note) q q′ c l a = tt
-after-new nothing q q′ c l a = tt

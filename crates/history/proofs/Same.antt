@@ -1,5 +1,5 @@
--- The entries of the queue stay those of the history through one call.
--- A reader may rely on after-same, for every deed, and on others-unnamed: a handle names one entry of a sound queue.
+-- What a new value and a removal do to the queue's entries is what they do to the book's.
+-- A reader may rely on swaps-same and takes-same, and on others-unnamed: a handle names one entry of a sound queue.
 use mathlib.Core.Path.{_≡_, sym, _∙_}
 use mathlib.Core.List.{List, _∷_, _++_}
 use Prim.Native.Nat.{ℕ}
@@ -11,10 +11,8 @@ use Rattle.rules.specs.Sound.{Sound}
 use Rattle.rules.specs.inner.Changes.{Swaps, Takes}
 use Rattle.rules.proofs.Lists.{once-differ, slots-put}
 use Rattle.rules.proofs.Removing.{live-once}
-use Rattle.history.specs.Deed.{Deed, adds, replaces, takesOut, nothing}
-use Rattle.history.specs.Left.{revalue, without, does, Shuffled}
-use Rattle.history.proofs.After.{After}
-use Rattle.history.proofs.Shuffle.{revalue-append, shuffled-revalue, revalue-none, revalue-one, without-none, without-one, shuffled-without}
+use Rattle.history.specs.Book.{revalue, without}
+use Rattle.history.proofs.Shuffle.{revalue-append, revalue-none, revalue-one, without-none, without-one}
 
 -- beside the entry that a handle names no other has its slot
 pub others-unnamed : {q : Queue} (h : Handle) (a : List Entry) (x : Entry) (b : List Entry) → Sound q
@@ -25,7 +23,7 @@ others-unnamed h a x b s e n =
     all-of _ (a ++ b)
     (λ y i m. all-in _ (slots a ++ slots b) differ (y .slot) (rw (slots-append a b) at (in-slots y (a ++ b) i)) (n .0 ∙ sym (m .0)))
 
-swaps-same : {q q′ : Queue} (h : Handle) (v : ℕ) (x : Entry) → Sound q → Names h x → Swaps q q′ x v → revalue h v (entries q) ≡ entries q′
+pub swaps-same : {q q′ : Queue} (h : Handle) (v : ℕ) (x : Entry) → Sound q → Names h x → Swaps q q′ x v → revalue h v (entries q) ≡ entries q′
 swaps-same {q} {q′} h v x s n c =
     let a = c .smaller in
     let b = c .greater in
@@ -34,19 +32,10 @@ swaps-same {q} {q′} h v x s n c =
     revalue-append h v a (x ∷ b) ∙ rw (revalue-none h v a (all-left _ a b o), revalue-one h v x b n, revalue-none h v b (all-right _ a b o)) in
     rw (c .old, c .now) e
 
-takes-same : {q q′ : Queue} (h : Handle) (x : Entry) → Sound q → Names h x → Takes q q′ x → without h (entries q) ≡ entries q′
+pub takes-same : {q q′ : Queue} (h : Handle) (x : Entry) → Sound q → Names h x → Takes q q′ x → without h (entries q) ≡ entries q′
 takes-same {q} {q′} h x s n c =
     let a = c .smaller in
     let b = c .greater in
     let o = others-unnamed h a x b s (c .old) n in
     let e : without h (a ++ (x ∷ b)) ≡ a ++ b = without-one h a x b n ∙ rw (without-none h a (all-left _ a b o), without-none h b (all-right _ a b o)) in
     rw (c .old, c .now) e
-
-pub after-same : (d : Deed) (q q′ : Queue) (l : List Entry) → Sound q → After d q q′ → Shuffled l (entries q) → Shuffled (does d l) (entries q′)
-unfolding does
-after-same (adds h key value) q q′ l s c i =
-    let more : Shuffled (entryWith h key value ∷ l) (entries q′) = (c .smaller, c .greater, c .now, rw (c .old) at i) in
-    more
-after-same (replaces h value) q q′ l s c i = rw (← (swaps-same h value (c .old) s (c .named) (c .swaps))) (shuffled-revalue h value l (entries q) i)
-after-same (takesOut h note) q q′ l s c i = rw (← (takes-same h (c .out) s (c .named) (c .takes))) (shuffled-without h l (entries q) i)
-after-same nothing q q′ l s c i = rw c i

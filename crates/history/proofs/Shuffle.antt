@@ -12,11 +12,16 @@ use Rattle.wavl.proofs.Lists.{in-middle}
 use Rattle.wavl.proofs.Order.{choose-cases}
 use Rattle.rules.specs.Queue.{Handle, Names}
 use Rattle.rules.proofs.Lists.{in-put, in-drop}
-use Rattle.history.specs.Left.{decNames, revalue, without, Shuffled}
+use Rattle.history.specs.Book.{decNames, revalue, without, Shuffled}
 
 -- an order of no entries has none
 pub shuffled-none : (m : List Entry) → Shuffled [] m → m ≡ []
 shuffled-none m h = h
+
+-- a list is an order of its own
+pub shuffled-self : (l : List Entry) → Shuffled l l
+shuffled-self [] = refl
+shuffled-self (x ∷ l) = ([], l, refl, shuffled-self l)
 
 -- members and number
 pub shuffled-there : (l m : List Entry) → Shuffled l m → (y : Entry) → In y l → In y m

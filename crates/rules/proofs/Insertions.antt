@@ -13,9 +13,9 @@ use Rattle.wavl.proofs.Rising.{less-before}
 use Rattle.wavl.proofs.Manual.{beside-whole, beside-is}
 use Rattle.wavl.proofs.Found.{Missed, Searched, search-right}
 use Rattle.rules.specs.Queue.{Handle, Queue}
-use Rattle.rules.specs.Answers.{notInserted, failedOrdRequirement}
+use Rattle.rules.specs.Answers.{Where, less, equal, greater, notInserted, failedOrdRequirement}
 use Rattle.rules.specs.Place.{Spot, nowhere, spot, spotOf}
-use Rattle.rules.specs.Insert.{Where, less, equal, greater, keyed, addBeside, placeNormal, insertNormal, placeEmpty, insertEmpty, placeManual, insertManual}
+use Rattle.rules.specs.Insert.{keyed, addBeside, placeNormal, insertNormal, placeEmpty, insertEmpty, placeManual, insertManual, Kind, normal, onEmpty, manual, insert}
 use Rattle.rules.specs.Sound.{Sound}
 use Rattle.rules.specs.inner.Changes.{AfterInserting}
 use Rattle.rules.proofs.Places.{entries-around, SpotIs}
@@ -38,15 +38,9 @@ module _ (key value : ℕ) (q : Queue) (s : Sound q) where
   place-normal (place tip p) f = add-at key value q s p (f .back) (missed-fits p f)
   place-normal (place (fork a x r b) p) f = swap-at key value q s a x r b p (f .back) (f .key-is)
 
-  pub normal-both : Inserts key value q (insertNormal key value q)
+  normal-both : Inserts key value q (insertNormal key value q)
   unfolding insertNormal
   normal-both = place-normal (search key (q .tree)) (search-right key (q .tree) (s .rising))
-
-  pub normal-does : AfterInserting key value q (insertNormal key value q .0) (insertNormal key value q .1)
-  normal-does = normal-both .does
-
-  pub normal-sound : Sound (insertNormal key value q .1)
-  normal-sound = normal-both .sound
 
   -- Empty
   place-empty : (t : Tree) → q .tree ≡ t → Inserts key value q (placeEmpty t key value q)
@@ -54,15 +48,9 @@ module _ (key value : ℕ) (q : Queue) (s : Sound q) where
   place-empty tip e = add-at key value q s [] (sym e) (record { above = tt; below = tt })
   place-empty (fork a x r b) e = refused failedOrdRequirement
 
-  pub empty-both : Inserts key value q (insertEmpty key value q)
+  empty-both : Inserts key value q (insertEmpty key value q)
   unfolding insertEmpty
   empty-both = place-empty (q .tree) refl
-
-  pub empty-does : AfterInserting key value q (insertEmpty key value q .0) (insertEmpty key value q .1)
-  empty-does = empty-both .does
-
-  pub empty-sound : Sound (insertEmpty key value q .1)
-  empty-sound = empty-both .sound
 
   -- Manual
   add-beside : (d : Side) (a : Tree) (x : Entry) (r : ℕ) (b : Tree) (p : Way) → plug (fork a x r b) p ≡ q .tree
@@ -86,12 +74,18 @@ module _ (key value : ℕ) (q : Queue) (s : Sound q) where
       (λ e. swap-at key value q s a x r b p (n .1) (sym e)) (λ e. refused failedOrdRequirement)
   place-manual h (spot a x r b p) n greater = add-beside right a x r b p (n .1)
 
-  pub manual-both : (h : Handle) (w : Where) → Inserts key value q (insertManual h w key value q)
+  manual-both : (h : Handle) (w : Where) → Inserts key value q (insertManual h w key value q)
   unfolding insertManual
   manual-both h w = place-manual h (spotOf h q) (sound-spot h s) w
 
-  pub manual-does : (h : Handle) (w : Where) → AfterInserting key value q (insertManual h w key value q .0) (insertManual h w key value q .1)
-  manual-does h w = manual-both h w .does
+  -- every kind: what the answer says was done, and a sound queue
+  insert-both : (k : Kind) → Inserts key value q (insert k key value q)
+  insert-both normal = normal-both
+  insert-both onEmpty = empty-both
+  insert-both (manual h w) = manual-both h w
 
-  pub manual-sound : (h : Handle) (w : Where) → Sound (insertManual h w key value q .1)
-  manual-sound h w = manual-both h w .sound
+  pub insert-does : (k : Kind) → AfterInserting key value q (insert k key value q .0) (insert k key value q .1)
+  insert-does k = insert-both k .does
+
+  pub insert-sound : (k : Kind) → Sound (insert k key value q .1)
+  insert-sound k = insert-both k .sound

@@ -19,7 +19,7 @@ use Rattle.wavl.proofs.Size.{size-length}
 use Rattle.wavl.proofs.Found.{looked-path, looked-bound, looked-tight}
 use Rattle.wavl.proofs.Reply.{Answers, answer-right}
 use Rattle.rules.specs.Queue.{Handle, handle, handleOf, Queue, entries, Has}
-use Rattle.rules.specs.Answers.{noNote, generationOverflow, removed, reads, Found, equalAt, beside, noEntry, stands, ends}
+use Rattle.rules.specs.Answers.{noNote, generationOverflow, removed, reads, Found, equalAt, beside, noEntry, notFound, stands, ends}
 use Rattle.rules.specs.Place.{Spot, nowhere, spot, spotOf}
 use Rattle.rules.specs.Remove.{freed, noteOf, freeAfter, removeSpot, remove}
 use Rattle.rules.specs.Look.{readSpot, read, foundIn, searchFor, standsAt, first, last, stepSpot, stepTo, next, prev}
@@ -182,6 +182,9 @@ module _ (key : ℕ) (q : Queue) (s : Sound q) where
   search-there (equalAt h n) f g = (h, n, refl)
   search-there (beside h d n) f g = absurd (f .0 g)
   search-there (noEntry n) f g = absurd (rw (f .1) at (g .1))
+
+  pub search-never : (n : ℕ) → ¬ (searchFor key q ≡ notFound n)
+  search-never n e = subst (λ (a : Found). SearchAnswers key q a) e search-answers
 
   pub search-finds : ((h : Handle) × (n : ℕ) × (searchFor key q ≡ equalAt h n)) ↔ Has key q
   search-finds = (

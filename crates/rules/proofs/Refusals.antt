@@ -1,5 +1,5 @@
 -- Document 01's table "When the queue says no": each refusal of each call, exactly when the table says, and no other number.
--- A reader may rely on these for sound queues. Number 5 is the store's, and 4 and 6 belong to laying out and to due times.
+-- A reader may rely on these for sound queues. Number 5 is the store's; 4 stands in proofs/History (lay-answers), 6 in crate `due`.
 use mathlib.Core.Path.{_≡_, refl, sym, ap, _∙_, subst}
 use mathlib.Core.Logic.{_⊎_, inl, inr, _↔_}
 use mathlib.Core.List.{cons≢nil}
@@ -7,13 +7,14 @@ use Prim.Native.Nat.{ℕ}
 use native.Mathlib.Omega.{arith}
 use Rattle.wavl.specs.Tree.{Side}
 use Rattle.rules.specs.Queue.{Handle, Queue, Has, Live}
-use Rattle.rules.specs.Answers.{Inserted, new, replacing, notInserted, Removed, removed, notRemoved, Read, reads, notRead, Stepped, stands, ends, notStepped, notWithinCapacity, failedOrdRequirement, invalidPtr}
-use Rattle.rules.specs.Insert.{Where, insertNormal, insertEmpty, insertManual}
+use Rattle.rules.specs.Answers.{Where, Inserted, new, replacing, notInserted, wouldRefuse, Removed, removed, notRemoved, Read, reads, notRead, Stepped, stands, ends, notStepped, notWithinCapacity, failedOrdRequirement, invalidPtr}
+use Rattle.rules.specs.Insert.{insertNormal, insertEmpty, insertManual, Kind, insert, ahead, foresee}
 use Rattle.rules.specs.Remove.{remove}
-use Rattle.rules.specs.Look.{read, stepTo}
+use Rattle.rules.specs.Look.{read, first, last, standAt, stepTo}
 use Rattle.rules.specs.Sound.{Sound}
-use Rattle.rules.specs.Table.{NoSlot, NextFree, NormalAnswers, NoEntries, EmptyAnswers, ManualFits, Adding, ManualAnswers, RemoveAnswers, ReadAnswers, StepAnswers}
-use Rattle.rules.proofs.Told.{normal-answers, empty-answers, manual-answers, remove-answers, read-answers, step-answers, target-live}
+use Rattle.rules.specs.Table.{NoSlot, NextFree, NormalAnswers, NoEntries, EmptyAnswers, ManualFits, Adding, ManualAnswers, RemoveAnswers, ReadAnswers, FirstAnswers, LastAnswers, StandAnswers, StepAnswers}
+use Rattle.rules.proofs.Told.{normal-answers, empty-answers, manual-answers, remove-answers, read-answers, first-answers, last-answers, stand-answers, step-answers, target-live}
+use Rattle.rules.proofs.Unchanged.{insert-ahead}
 
 pub no-next : (q : Queue) {h : Handle} → NextFree q h → ¬ NoSlot q
 no-next q f n = cons≢nil (sym (f .1) ∙ n)
@@ -165,3 +166,34 @@ module _ (h : Handle) (q : Queue) (s : Sound q) where
 
   pub step-refused-only : (d : Side) (n : ℕ) → stepTo d h q ≡ notStepped n → n ≡ invalidPtr
   step-refused-only d n e = subst (λ (a : Stepped). StepAnswers d h q a) e (step-answers h q s d) .0
+
+  -- standing at a handle
+  stand-three : (a : Stepped) → StandAnswers h q a → ¬ Live h q → a ≡ notStepped invalidPtr
+  stand-three (stands g) f l = absurd (l (f .1))
+  stand-three ends f l = absurd f
+  stand-three (notStepped n) f l = ap notStepped (f .0)
+
+  pub stand-refused-3 : (standAt h q ≡ notStepped invalidPtr) ↔ (¬ Live h q)
+  stand-refused-3 =
+      (λ e. subst (λ (a : Stepped). StandAnswers h q a) e (stand-answers h q s) .1, stand-three (standAt h q) (stand-answers h q s))
+
+  pub stand-refused-only : (n : ℕ) → standAt h q ≡ notStepped n → n ≡ invalidPtr
+  stand-refused-only n e = subst (λ (a : Stepped). StandAnswers h q a) e (stand-answers h q s) .0
+
+-- "An absent key, an empty queue and the end of the chain are answers, no refusals."
+pub first-never : (q : Queue) (n : ℕ) → ¬ (first q ≡ notStepped n)
+first-never q n e = subst (λ (a : Stepped). FirstAnswers q a) e (first-answers q)
+
+pub last-never : (q : Queue) (n : ℕ) → ¬ (last q ≡ notStepped n)
+last-never q n e = subst (λ (a : Stepped). LastAnswers q a) e (last-answers q)
+
+-- the look-ahead foretells the refusal that the same insertion would get, and no other
+module _ (k : Kind) (key value : ℕ) (q : Queue) where
+  refuses-as : (a : Inserted) (n : ℕ) → (ahead a ≡ wouldRefuse n) ↔ (a ≡ notInserted n)
+  unfolding ahead
+  refuses-as (new h) n = (λ e. absurd (let z : _≡_ {A = ℕ} 0 1 = cc in omega arith), λ e. absurd (let z : _≡_ {A = ℕ} 0 1 = cc in omega arith))
+  refuses-as (replacing h v) n = (λ e. absurd (let z : _≡_ {A = ℕ} 0 1 = cc in omega arith), λ e. absurd (let z : _≡_ {A = ℕ} 0 1 = cc in omega arith))
+  refuses-as (notInserted m) n = (λ e. let z : m ≡ n = cc in ap notInserted z, λ e. let z : m ≡ n = cc in ap wouldRefuse z)
+
+  pub ahead-refused : (n : ℕ) → (foresee k key q ≡ wouldRefuse n) ↔ (insert k key value q .0 ≡ notInserted n)
+  ahead-refused n = let i = refuses-as (insert k key value q .0) n in (λ e. i .0 (insert-ahead key q k value ∙ e), λ e. sym (insert-ahead key q k value) ∙ i .1 e)

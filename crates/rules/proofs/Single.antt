@@ -2,6 +2,7 @@
 -- A reader may rely on these with the theorems CALL-answers of proofs/Told and proofs/Looking: the facts pin the answer down.
 use mathlib.Core.Path.{_≡_, refl, sym, ap, _∙_, subst}
 use mathlib.Core.Logic.{inl, inr}
+use mathlib.Core.Bool.{Bool}
 use mathlib.Core.List.{List, head-eq-of-cons-eq}
 use mathlib.Core.Option.{Option, some, Option·some-injective}
 use Prim.Native.Nat.{ℕ}
@@ -12,16 +13,20 @@ use Rattle.wavl.specs.Tree.{Side, left, right}
 use Rattle.wavl.proofs.Lists.{last-of}
 use Rattle.wavl.proofs.Strict.{rising-unique}
 use Rattle.rules.specs.Queue.{Handle, handleOf, Queue, entries, Holds, Names}
-use Rattle.rules.specs.Answers.{Inserted, new, replacing, notInserted, Note, noNote, generationOverflow, Removed, removed, notRemoved, Read, reads, notRead, Found, equalAt, beside, noEntry, Stepped, stands, ends, notStepped}
-use Rattle.rules.specs.Insert.{Where}
+use Rattle.rules.specs.Answers.{Where, less, equal, greater, Laid, laid, notLaid, Ahead, wouldAdd, wouldReplace, wouldRefuse, Inserted, new, replacing, notInserted, Note, noNote, generationOverflow, Removed, removed, notRemoved, Read, reads, notRead, Found, equalAt, beside, noEntry, notFound, Stepped, stands, ends, notStepped}
+use Rattle.rules.specs.Insert.{Kind, normal, onEmpty, manual, ahead}
 use Rattle.rules.specs.Look.{standsAt}
 use Rattle.rules.specs.Sound.{Sound}
-use Rattle.rules.specs.Table.{NextFree, NormalAnswers, NoEntries, EmptyAnswers, Target, ManualAnswers, NoteFits, RemoveAnswers, ReadAnswers, Facing, StepAnswers, KeyOn, SearchAnswers}
+use Rattle.rules.specs.Table.{NextFree, NormalAnswers, NoEntries, EmptyAnswers, Target, ManualAnswers, InsertAnswers, AheadAnswers, LayAnswers, NoteFits, RemoveAnswers, ReadAnswers, EndIs, StandAnswers, Rest, StepAnswers, KeyOn, SearchAnswers}
 use Rattle.rules.proofs.Places.{slot-unique}
 use Rattle.rules.proofs.Removing.{live-once}
 use Rattle.rules.proofs.Told.{names-handle, target-live}
 use Rattle.rules.proofs.Refusals.{no-next, equal-adds-not}
 use Rattle.rules.proofs.Looking.{same-target}
+
+abbrev endOf : Side → List Entry → Option Entry
+endOf left l = last l
+endOf right l = first l
 
 next-unique : (q : Queue) {g h : Handle} → NextFree q g → NextFree q h → g ≡ h
 next-unique q f k = head-eq-of-cons-eq (sym (f .1) ∙ k .1)
@@ -90,7 +95,46 @@ module _ (h : Handle) (w : Where) (key : ℕ) (q : Queue) (s : Sound q) where
   manual-single (notInserted m) (notInserted n) (inr f) (inl k) = absurd (k .1 (f .1))
   manual-single (notInserted m) (notInserted n) (inr f) (inr k) = ap notInserted (f .0 ∙ sym (k .0))
 
--- Removal, reading and stepping
+-- Every kind, and its look-ahead
+module _ (key : ℕ) (q : Queue) (s : Sound q) where
+  pub insert-single : (k : Kind) (a b : Inserted) → InsertAnswers k key q a → InsertAnswers k key q b → a ≡ b
+  insert-single normal a b f g = normal-single key q s a b f g
+  insert-single onEmpty a b f g = empty-single q a b f g
+  insert-single (manual h w) a b f g = manual-single h w key q s a b f g
+
+  -- an insertion that would be told so
+  told-as : (k : Kind) (a : Ahead) → AheadAnswers k key q a → (i : Inserted) × InsertAnswers k key q i × (ahead i ≡ a)
+  unfolding ahead
+  told-as k (wouldAdd h) f = (new h, f, refl)
+  told-as k (wouldReplace h) f = (replacing h (f .0), f .1, refl)
+  told-as k (wouldRefuse n) f = (notInserted n, f, refl)
+
+  pub ahead-single : (k : Kind) (a b : Ahead) → AheadAnswers k key q a → AheadAnswers k key q b → a ≡ b
+  ahead-single k a b f g =
+      let i = told-as k a f in
+      let j = told-as k b g in
+      sym (i .2) ∙ ap ahead (insert-single k (i .0) (j .0) (i .1) (j .1)) ∙ j .2
+
+-- Laying out
+pub lay-single : (enough : ℕ → Bool) (capacity top : ℕ) (a b : Laid) → LayAnswers enough capacity top a → LayAnswers enough capacity top b → a ≡ b
+lay-single enough capacity top laid laid f g = refl
+lay-single enough capacity top laid (notLaid n) f g = absurd (g .1 f)
+lay-single enough capacity top (notLaid m) laid f g = absurd (f .1 g)
+lay-single enough capacity top (notLaid m) (notLaid n) f g = ap notLaid (f .0 ∙ sym (g .0))
+
+-- the end of a chain is one, so first and last have one answer
+end-is : (d : Side) (l : List Entry) (o : Stepped) → EndIs d l o → o ≡ standsAt (endOf d l)
+unfolding standsAt last first
+end-is left l (stands g) f = ap stands (f .3) ∙ ap standsAt (sym (last-of (f .0) (f .1))) ∙ ap (λ m. standsAt (last m)) (sym (f .2))
+end-is right l (stands g) f = ap stands (f .3) ∙ ap (λ m. standsAt (first m)) (sym (f .2))
+end-is left l ends f = ap (λ m. standsAt (last m)) (sym f)
+end-is right l ends f = ap (λ m. standsAt (first m)) (sym f)
+end-is d l (notStepped n) f = absurd f
+
+pub end-one : (d : Side) (l : List Entry) (a b : Stepped) → EndIs d l a → EndIs d l b → a ≡ b
+end-one d l a b f g = end-is d l a f ∙ sym (end-is d l b g)
+
+-- Removal, reading, standing and stepping
 module _ (h : Handle) (q : Queue) (s : Sound q) where
   one-note : (m n : Note) (x : Entry) → NoteFits m x q → NoteFits n x q → m ≡ n
   one-note noNote noNote x f k = refl
@@ -119,27 +163,18 @@ module _ (h : Handle) (q : Queue) (s : Sound q) where
   read-single (notRead m) (reads l v) f g = absurd (f .1 (g .0, g .1, g .2))
   read-single (notRead m) (notRead n) f g = ap notRead (f .0 ∙ sym (g .0))
 
-  -- what faces an entry is the end of the chain on that side of it
-  faced-left : (a : List Entry) (x : Entry) (b : List Entry) (o : Stepped) → Facing left a x b o → o ≡ standsAt (last a)
-  unfolding standsAt last
-  faced-left a x b (stands g) f = ap stands (f .3) ∙ ap standsAt (sym (last-of (f .0) (f .1))) ∙ ap (λ l. standsAt (last l)) (sym (f .2))
-  faced-left a x b ends f = ap (λ l. standsAt (last l)) (sym f)
-  faced-left a x b (notStepped n) f = absurd f
+  both-face : (d : Side) (t u : Target h q) (a b : Stepped) → EndIs d (Rest d t) a → EndIs d (Rest d u) b → a ≡ b
+  both-face left t u a b f g = end-one left (t .smaller) a b f (rw (same-target h q s t u .0) g)
+  both-face right t u a b f g = end-one right (t .greater) a b f (rw (same-target h q s t u .2) g)
 
-  faced-right : (a : List Entry) (x : Entry) (b : List Entry) (o : Stepped) → Facing right a x b o → o ≡ standsAt (first b)
-  unfolding standsAt first
-  faced-right a x b (stands g) f = ap stands (f .3) ∙ ap (λ l. standsAt (first l)) (sym (f .2))
-  faced-right a x b ends f = ap (λ l. standsAt (first l)) (sym f)
-  faced-right a x b (notStepped n) f = absurd f
-
-  both-face : (d : Side) (t u : Target h q) (a b : Stepped) → Facing d (t .smaller) (t .target) (t .greater) a
-      → Facing d (u .smaller) (u .target) (u .greater) b → a ≡ b
-  both-face left t u a b f g =
-      faced-left (t .smaller) (t .target) (t .greater) a f ∙ ap (λ l. standsAt (last l)) (same-target h q s t u .0)
-      ∙ sym (faced-left (u .smaller) (u .target) (u .greater) b g)
-  both-face right t u a b f g =
-      faced-right (t .smaller) (t .target) (t .greater) a f ∙ ap (λ l. standsAt (first l)) (same-target h q s t u .2)
-      ∙ sym (faced-right (u .smaller) (u .target) (u .greater) b g)
+  pub stand-single : (a b : Stepped) → StandAnswers h q a → StandAnswers h q b → a ≡ b
+  stand-single (stands g) (stands i) f k = ap stands (f .0 ∙ sym (k .0))
+  stand-single (stands g) ends f k = absurd k
+  stand-single (stands g) (notStepped n) f k = absurd (k .1 (f .1))
+  stand-single ends b f k = absurd f
+  stand-single (notStepped m) (stands i) f k = absurd (f .1 (k .1))
+  stand-single (notStepped m) ends f k = absurd k
+  stand-single (notStepped m) (notStepped n) f k = ap notStepped (f .0 ∙ sym (k .0))
 
   pub step-single : (d : Side) (a b : Stepped) → StepAnswers d h q a → StepAnswers d h q b → a ≡ b
   step-single d (stands g) (stands i) f k = both-face d (f .0) (k .0) (stands g) (stands i) (f .1) (k .1)
@@ -154,11 +189,14 @@ module _ (h : Handle) (q : Queue) (s : Sound q) where
 
 -- Search
 module _ (key : ℕ) (q : Queue) (s : Sound q) where
-  one-side : (c d : Side) (x : Entry) → KeyOn c key x → KeyOn d key x → c ≡ d
-  one-side left left x f g = refl
-  one-side left right x f g = absurd (omega arith)
-  one-side right left x f g = absurd (omega arith)
-  one-side right right x f g = refl
+  one-side : (c d : Where) (x : Entry) → KeyOn c key x → KeyOn d key x → c ≡ d
+  one-side less less x f g = refl
+  one-side less equal x f g = absurd g
+  one-side less greater x f g = absurd (omega arith)
+  one-side equal d x f g = absurd f
+  one-side greater less x f g = absurd (omega arith)
+  one-side greater equal x f g = absurd g
+  one-side greater greater x f g = refl
 
   no-entry : NoEntries q → (x : Entry) → ¬ Holds q x
   no-entry n x i = rw n at i
@@ -178,6 +216,10 @@ module _ (key : ℕ) (q : Queue) (s : Sound q) where
       let i : g ≡ h = sym (names-handle g (x .0) (x .2)) ∙ ap handleOf e ∙ names-handle h (y .0) (y .2) in
       let j : c ≡ d = one-side c d (y .0) (subst (λ (z : Entry). KeyOn c key z) e (x .3)) (y .3) in
       ap (λ l. beside l c m) i ∙ ap (λ l. beside h l m) j ∙ ap (beside h d) (f .2 ∙ sym (k .2))
+  search-single (equalAt g m) (notFound n) f k = absurd k
+  search-single (beside g c m) (notFound n) f k = absurd k
+  search-single (noEntry m) (notFound n) f k = absurd k
+  search-single (notFound m) b f k = absurd f
   search-single (beside g c m) (noEntry n) f k = absurd (no-entry (k .1) (f .1 .0) (f .1 .1))
   search-single (noEntry m) (equalAt h n) f k = absurd (no-entry (f .1) (k .0) (k .1))
   search-single (noEntry m) (beside h d n) f k = absurd (no-entry (f .1) (k .1 .0) (k .1 .1))

@@ -15,14 +15,15 @@ use Rattle.wavl.proofs.Lists.{in-middle}
 use Rattle.wavl.proofs.Order.{choose-cases}
 use Rattle.wavl.proofs.Found.{Searched, search-right}
 use Rattle.wavl.proofs.Chain.{split-unique}
-use Rattle.rules.specs.Queue.{Handle, handleOf, Queue, Holds, Has, Names, Live}
-use Rattle.rules.specs.Answers.{notInserted, failedOrdRequirement, Stepped, stands, ends, notStepped}
+use Rattle.rules.specs.Queue.{Handle, handleOf, Queue, entries, Holds, Has, Names, Live}
+use Rattle.rules.specs.Answers.{Where, less, equal, greater, Inserted, new, replacing, notInserted, failedOrdRequirement, Stepped, stands, ends, notStepped}
 use Rattle.rules.specs.Place.{Spot, nowhere, spot, spotOf}
-use Rattle.rules.specs.Insert.{Where, less, equal, greater, keyed, Between, decBetween, addWith, addAt, swapAt, addBeside, placeNormal, insertNormal, placeEmpty, insertEmpty, placeManual, insertManual}
+use Rattle.rules.specs.Insert.{keyed, Between, decBetween, addWith, addAt, swapAt, addBeside, placeNormal, insertNormal, placeEmpty, insertEmpty, placeManual, insertManual, Kind, normal, onEmpty, manual, insert, ahead, foresee}
 use Rattle.rules.specs.Remove.{noteOf, removeSpot, remove}
-use Rattle.rules.specs.Look.{readSpot, read, standsAt, stepSpot, stepTo}
+use Rattle.rules.specs.Look.{readSpot, read, standsAt, standSpot, standAt, stepSpot, stepTo}
+use Rattle.rules.specs.Look
 use Rattle.rules.specs.Sound.{Sound}
-use Rattle.rules.specs.Table.{NormalAnswers, NoEntries, EmptyAnswers, Target, KeyFits, ManualFits, Adding, ManualAnswers, NoteFits, RemoveAnswers, ReadAnswers, Facing, StepAnswers}
+use Rattle.rules.specs.Table.{NormalAnswers, NoEntries, EmptyAnswers, Target, KeyFits, ManualFits, Adding, ManualAnswers, NoteFits, RemoveAnswers, ReadAnswers, EndIs, FirstAnswers, LastAnswers, StandAnswers, Rest, StepAnswers, InsertAnswers, AheadAnswers}
 use Rattle.rules.proofs.Places.{smallerOf, greaterOf, entries-around, SpotIs, same-slot}
 use Rattle.rules.proofs.Removing.{live-once, sound-spot}
 
@@ -143,21 +144,47 @@ module _ (h : Handle) (key value : ℕ) (q : Queue) (s : Sound q) where
   unfolding insertManual
   manual-answers w = manual-spot (spotOf h q) (sound-spot h s) w
 
--- the ends of a chain that face an entry
+-- Every kind, and its look-ahead
+module _ (key value : ℕ) (q : Queue) (s : Sound q) where
+  pub insert-answers : (k : Kind) → InsertAnswers k key q (insert k key value q .0)
+  insert-answers normal = normal-answers key value q s
+  insert-answers onEmpty = empty-answers key value q
+  insert-answers (manual h w) = manual-answers h key value q s w
+
+ahead-told : (k : Kind) (key : ℕ) (q : Queue) (a : Inserted) → InsertAnswers k key q a → AheadAnswers k key q (ahead a)
+unfolding ahead
+ahead-told k key q (new h) f = f
+ahead-told k key q (replacing h v) f = (v, f)
+ahead-told k key q (notInserted n) f = f
+
+pub ahead-answers : (k : Kind) (key : ℕ) (q : Queue) → Sound q → AheadAnswers k key q (foresee k key q)
+unfolding foresee
+ahead-answers k key q s = ahead-told k key q (insert k key 0 q .0) (insert-answers key 0 q s k)
+
+-- the ends of a chain
 last-split : (z : Entry) (l : List Entry) → (k : List Entry) × (y : Entry) × (z ∷ l ≡ k ++ (y ∷ [])) × (last (z ∷ l) ≡ some y)
 unfolding last
 last-split z [] = ([], z, refl, refl)
 last-split z (w ∷ l) = let i = last-split w l in (z ∷ i .0, i .1, ap (λ m. z ∷ m) (i .2), i .3)
 
-faces-left : (a : List Entry) (x : Entry) (b : List Entry) → Facing left a x b (standsAt (last a))
+end-left : (l : List Entry) → EndIs left l (standsAt (last l))
 unfolding standsAt last
-faces-left [] x b = refl
-faces-left (z ∷ a) x b = let i = last-split z a in rw (i .3) (i .0, i .1, i .2, refl)
+end-left [] = refl
+end-left (z ∷ l) = let i = last-split z l in rw (i .3) (i .0, i .1, i .2, refl)
 
-faces-right : (a : List Entry) (x : Entry) (b : List Entry) → Facing right a x b (standsAt (first b))
+end-right : (l : List Entry) → EndIs right l (standsAt (first l))
 unfolding standsAt first
-faces-right a x [] = refl
-faces-right a x (y ∷ b) = (y, b, refl, refl)
+end-right [] = refl
+end-right (y ∷ l) = (y, l, refl, refl)
+
+-- First and last, on any queue
+pub first-answers : (q : Queue) → FirstAnswers q (Look.first q)
+unfolding Look.first
+first-answers q = end-right (entries q)
+
+pub last-answers : (q : Queue) → LastAnswers q (Look.last q)
+unfolding Look.last
+last-answers q = end-left (entries q)
 
 -- Removal, reading and stepping
 module _ (h : Handle) (q : Queue) (s : Sound q) where
@@ -185,21 +212,27 @@ module _ (h : Handle) (q : Queue) (s : Sound q) where
   unfolding read
   read-answers = read-spot (spotOf h q) (sound-spot h s)
 
-  step-facing : (d : Side) (t : Target h q) (o : Stepped) → Facing d (t .smaller) (t .target) (t .greater) o → StepAnswers d h q o
-  step-facing left t (stands g) f = (t, f)
-  step-facing left t ends f = (t, f)
-  step-facing left t (notStepped n) f = absurd f
-  step-facing right t (stands g) f = (t, f)
-  step-facing right t ends f = (t, f)
-  step-facing right t (notStepped n) f = absurd f
+  stand-spot : (c : Spot) → SpotIs h q c → StandAnswers h q (standSpot h c)
+  unfolding standSpot
+  stand-spot nowhere n = (refl, n)
+  stand-spot (spot a x r b p) n = (refl, target-live h q s (target-at h q a x r b p n))
+
+  pub stand-answers : StandAnswers h q (standAt h q)
+  unfolding standAt
+  stand-answers = stand-spot (spotOf h q) (sound-spot h s)
+
+  step-end : (d : Side) (t : Target h q) (o : Stepped) → EndIs d (Rest d t) o → StepAnswers d h q o
+  step-end d t (stands g) f = (t, f)
+  step-end d t ends f = (t, f)
+  step-end d t (notStepped n) f = absurd f
 
   step-spot : (d : Side) (c : Spot) → SpotIs h q c → StepAnswers d h q (stepSpot d c)
   unfolding stepSpot neighbour
   step-spot d nowhere n = (refl, n)
   step-spot left (spot a x r b p) n =
-      step-facing left (target-at h q a x r b p n) (standsAt (last (smallerOf a p))) (faces-left (smallerOf a p) x (greaterOf b p))
+      step-end left (target-at h q a x r b p n) (standsAt (last (smallerOf a p))) (end-left (smallerOf a p))
   step-spot right (spot a x r b p) n =
-      step-facing right (target-at h q a x r b p n) (standsAt (first (greaterOf b p))) (faces-right (smallerOf a p) x (greaterOf b p))
+      step-end right (target-at h q a x r b p n) (standsAt (first (greaterOf b p))) (end-right (greaterOf b p))
 
   pub step-answers : (d : Side) → StepAnswers d h q (stepTo d h q)
   unfolding stepTo

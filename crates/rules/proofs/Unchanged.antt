@@ -11,9 +11,9 @@ use Rattle.wavl.specs.Way.{Way, Place, place, neighbour}
 use Rattle.wavl.specs.Search.{search, besideOf}
 use Rattle.wavl.proofs.Order.{choose-cases}
 use Rattle.rules.specs.Queue.{Handle, Queue}
-use Rattle.rules.specs.Answers.{Inserted, new, replacing, notInserted, failedOrdRequirement, Removed, removed, notRemoved}
+use Rattle.rules.specs.Answers.{Where, less, equal, greater, Inserted, new, replacing, notInserted, failedOrdRequirement, Removed, removed, notRemoved}
 use Rattle.rules.specs.Place.{Spot, nowhere, spot, spotOf}
-use Rattle.rules.specs.Insert.{Where, less, equal, greater, keyed, decBetween, addWith, addAt, swapAt, addBeside, placeNormal, insertNormal, placeEmpty, insertEmpty, placeManual, insertManual, ahead, aheadNormal, aheadEmpty, aheadManual}
+use Rattle.rules.specs.Insert.{keyed, decBetween, addWith, addAt, swapAt, addBeside, placeNormal, insertNormal, placeEmpty, insertEmpty, placeManual, insertManual, Kind, normal, onEmpty, manual, insert, ahead, foresee}
 use Rattle.rules.specs.Remove.{removeSpot, remove}
 
 -- a refusal leaves the queue
@@ -90,30 +90,21 @@ module _ (key : ℕ) (q : Queue) where
   manual-alike u v (spot a x s b p) equal =
       choose-alike (ℕ-discrete key (x .key)) (swapAt u a x s b p q) (swapAt v a x s b p q) (notInserted failedOrdRequirement, q) refl
 
-  pub normal-unchanged : (value n : ℕ) → insertNormal key value q .0 ≡ notInserted n → insertNormal key value q .1 ≡ q
-  unfolding insertNormal
-  normal-unchanged value n e = normal-stays value (search key (q .tree)) (subst (λ (a : Inserted). Refuses a) (sym e) tt)
+  insert-stays : (k : Kind) (value : ℕ) → Stays q (insert k key value q)
+  unfolding insertNormal insertEmpty insertManual
+  insert-stays normal value = normal-stays value (search key (q .tree))
+  insert-stays onEmpty value = empty-stays value (q .tree)
+  insert-stays (manual h w) value = manual-stays value (spotOf h q) w
 
-  pub empty-unchanged : (value n : ℕ) → insertEmpty key value q .0 ≡ notInserted n → insertEmpty key value q .1 ≡ q
-  unfolding insertEmpty
-  empty-unchanged value n e = empty-stays value (q .tree) (subst (λ (a : Inserted). Refuses a) (sym e) tt)
-
-  pub manual-unchanged : (h : Handle) (w : Where) (value n : ℕ) → insertManual h w key value q .0 ≡ notInserted n → insertManual h w key value q .1 ≡ q
-  unfolding insertManual
-  manual-unchanged h w value n e = manual-stays value (spotOf h q) w (subst (λ (a : Inserted). Refuses a) (sym e) tt)
+  pub insert-unchanged : (k : Kind) (value n : ℕ) → insert k key value q .0 ≡ notInserted n → insert k key value q .1 ≡ q
+  insert-unchanged k value n e = insert-stays k value (subst (λ (a : Inserted). Refuses a) (sym e) tt)
 
   -- the look-ahead is the answer of the same insertion with any value, less the old value
-  pub normal-ahead : (value : ℕ) → ahead (insertNormal key value q .0) ≡ aheadNormal key q
-  unfolding insertNormal aheadNormal
-  normal-ahead value = normal-alike value 0 (search key (q .tree))
-
-  pub empty-ahead : (value : ℕ) → ahead (insertEmpty key value q .0) ≡ aheadEmpty key q
-  unfolding insertEmpty aheadEmpty
-  empty-ahead value = empty-alike value 0 (q .tree)
-
-  pub manual-ahead : (h : Handle) (w : Where) (value : ℕ) → ahead (insertManual h w key value q .0) ≡ aheadManual h w key q
-  unfolding insertManual aheadManual
-  manual-ahead h w value = manual-alike value 0 (spotOf h q) w
+  pub insert-ahead : (k : Kind) (value : ℕ) → ahead (insert k key value q .0) ≡ foresee k key q
+  unfolding insertNormal insertEmpty insertManual foresee
+  insert-ahead normal value = normal-alike value 0 (search key (q .tree))
+  insert-ahead onEmpty value = empty-alike value 0 (q .tree)
+  insert-ahead (manual h w) value = manual-alike value 0 (spotOf h q) w
 
 abbrev Declines : Removed → Type 0
 Declines (removed k v n) = ⊥

@@ -3,7 +3,6 @@
 use Prim.Native.Nat.{ℕ}
 use Rattle.handle.specs.Numbers.{refusalNumber}
 use Rattle.handle.specs.declared.Refusal.the-variants.{NotWithinCapacity, FailedOrdRequirement, InvalidPtr, BadLayout, NotSound, BadTime}
-use Rattle.wavl.specs.Tree.{Side}
 use Rattle.rules.specs.Queue.{Handle}
 
 -- document 01's table of refusals; the numbers stand in crate `handle`
@@ -24,6 +23,15 @@ notSound = refusalNumber NotSound
 
 abbrev pub badTime : ℕ
 badTime = refusalNumber BadTime
+
+-- "The side": of an entry, on which a key lies, or where Manual places
+pub data Where : Type 0 where
+  less equal greater : Where
+
+-- laying out: done, or 4
+pub data Laid : Type 0 where
+  laid : Laid
+  notLaid : ℕ → Laid
 
 -- "Any insertion answers New or Replacing with the handle, and the old value if replacing."
 pub data Inserted : Type 0 where
@@ -54,8 +62,9 @@ pub data Read : Type 0 where
 -- "Search as a call answers the equal entry's handle, or the last node's handle and the side, or Empty, each with the count."
 pub data Found : Type 0 where
   equalAt : Handle → ℕ → Found
-  beside : Handle → Side → ℕ → Found
+  beside : Handle → Where → ℕ → Found
   noEntry : ℕ → Found
+  notFound : ℕ → Found
 
 -- "at an end the answer is End"
 pub data Stepped : Type 0 where

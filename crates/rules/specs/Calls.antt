@@ -1,56 +1,79 @@
--- Calls as data, what each answers, and a run of a list of them: what a history is made of.
--- A reader may rely on this: a call does nothing but what the definition that it names does.
+-- Calls as data, one for each public call, what each answers, and a run of a list of them: what a history is made of.
+-- A reader may rely on this: a call does nothing but what the definition that it names does, and a look has no queue in its answer.
+use mathlib.Core.Bool.{Bool, true}
 use mathlib.Core.List.{List, [], _∷_}
 use Prim.Native.Nat.{ℕ}
 use Rattle.rules.specs.Queue.{Handle, Queue}
-use Rattle.rules.specs.Answers.{Inserted, Ahead, Removed, Read, Found, Stepped}
-use Rattle.rules.specs.Insert.{Where, insertNormal, insertEmpty, insertManual, aheadNormal, aheadEmpty, aheadManual}
+use Rattle.rules.specs.Answers.{Laid, Inserted, Ahead, Removed, Read, Found, Stepped}
+use Rattle.rules.specs.LayOut.{layOut}
+use Rattle.rules.specs.Insert.{Kind, insert, foresee}
 use Rattle.rules.specs.Remove.{remove}
-use Rattle.rules.specs.Look.{read, searchFor, first, last, next, prev}
+use Rattle.rules.specs.Look.{read, searchFor, first, last, standAt, next, prev}
+
+-- "Search, reading, stepping, look-ahead and check change no store"
+pub data Look : Type 0 where
+  foresees : Kind → ℕ → Look
+  reading : Handle → Look
+  searching : ℕ → Look
+  toFirst toLast : Look
+  standing toNext toPrev : Handle → Look
+  checking : Look
 
 pub data Call : Type 0 where
-  normal : ℕ → ℕ → Call
-  onEmpty : ℕ → ℕ → Call
-  manual : Handle → Where → ℕ → ℕ → Call
-  lookNormal : ℕ → Call
-  lookEmpty : ℕ → Call
-  lookManual : Handle → Where → ℕ → Call
+  inserts : Kind → ℕ → ℕ → Call
   removal : Handle → Call
-  reading : Handle → Call
-  searching : ℕ → Call
-  toFirst toLast : Call
-  toNext toPrev : Handle → Call
+  layingOut : ℕ → ℕ → Call
+  looks : Look → Call
 
-pub data Answer : Type 0 where
-  insertion : Inserted → Answer
-  lookAhead : Ahead → Answer
-  taken : Removed → Answer
-  seen : Read → Answer
-  sought : Found → Answer
-  cursor : Stepped → Answer
+abbrev pub Seen : Look → Type 0
+Seen (foresees kind key) = Ahead
+Seen (reading h) = Read
+Seen (searching key) = Found
+Seen toFirst = Stepped
+Seen toLast = Stepped
+Seen (standing h) = Stepped
+Seen (toNext h) = Stepped
+Seen (toPrev h) = Stepped
+Seen checking = Bool
 
-abbrev pub inserting : Inserted × Queue → Answer × Queue
-inserting r = (insertion (r .0), r .1)
+abbrev pub Answer : Call → Type 0
+Answer (inserts kind key value) = Inserted
+Answer (removal h) = Removed
+Answer (layingOut capacity top) = Laid
+Answer (looks l) = Seen l
 
-abbrev pub removing : Removed × Queue → Answer × Queue
-removing r = (taken (r .0), r .1)
+-- The check says yes of a queue: "A store is sound when" it holds one (crate `holds`).
+unfoldable pub look : (l : Look) → Queue → Seen l
+look (foresees kind key) q = foresee kind key q
+look (reading h) q = read h q
+look (searching key) q = searchFor key q
+look toFirst q = first q
+look toLast q = last q
+look (standing h) q = standAt h q
+look (toNext h) q = next h q
+look (toPrev h) q = prev h q
+look checking q = true
 
-unfoldable pub answer : Call → Queue → Answer × Queue
-answer (normal key value) q = inserting (insertNormal key value q)
-answer (onEmpty key value) q = inserting (insertEmpty key value q)
-answer (manual h w key value) q = inserting (insertManual h w key value q)
-answer (lookNormal key) q = (lookAhead (aheadNormal key q), q)
-answer (lookEmpty key) q = (lookAhead (aheadEmpty key q), q)
-answer (lookManual h w key) q = (lookAhead (aheadManual h w key q), q)
-answer (removal h) q = removing (remove h q)
-answer (reading h) q = (seen (read h q), q)
-answer (searching key) q = (sought (searchFor key q), q)
-answer toFirst q = (cursor (first q), q)
-answer toLast q = (cursor (last q), q)
-answer (toNext h) q = (cursor (next h q), q)
-answer (toPrev h) q = (cursor (prev h q), q)
+-- `enough` says for which capacities the lent store is long enough
+unfoldable pub answer : (ℕ → Bool) → (c : Call) → Queue → Answer c × Queue
+answer enough (inserts kind key value) q = insert kind key value q
+answer enough (removal h) q = remove h q
+answer enough (layingOut capacity top) q = layOut enough capacity top q
+answer enough (looks l) q = (look l q, q)
 
--- the answers in order, and the queue at the end
-unfoldable pub run : List Call → Queue → List Answer × Queue
-run [] q = ([], q)
-run (c ∷ l) q = let r = answer c q in let s = run l (r .1) in (r .0 ∷ s .0, s .1)
+-- a call and what it answered; a history has these in the order of the calls, the first call first
+pub record Event : Type 0 where
+  pub call : Call
+  pub reply : Answer call
+
+abbrev pub History : Type 0
+History = List Event
+
+-- a list of calls over any kind of state, by what one call does to it: the history, and the state at the end
+unfoldable pub runBy : {S : Type 0} → ((c : Call) → S → Answer c × S) → List Call → S → History × S
+runBy step [] s = ([], s)
+runBy step (c ∷ l) s =
+    let r = step c s in let o = runBy step l (r .1) in (record { call = c; reply = r .0 } ∷ o .0, o .1)
+
+abbrev pub run : (ℕ → Bool) → List Call → Queue → History × Queue
+run enough l q = runBy (answer enough) l q

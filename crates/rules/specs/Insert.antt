@@ -10,26 +10,21 @@ use Rattle.wavl.specs.Tree.{Side, left, right, Tree, tip, fork}
 use Rattle.wavl.specs.Way.{Way, Place, place, neighbour, replaceAt}
 use Rattle.wavl.specs.Placing.{insertAt}
 use Rattle.wavl.specs.Search.{search, besideOf}
-use Rattle.rules.specs.Queue.{Handle, handleOf, entryWith, Queue, decBoth}
-use Rattle.rules.specs.Answers.{Inserted, new, replacing, notInserted, Ahead, wouldAdd, wouldReplace, wouldRefuse, notWithinCapacity, failedOrdRequirement}
+use Rattle.rules.specs.Queue.{Handle, handleOf, entryWith, Queue, changed, decBoth}
+use Rattle.rules.specs.Answers.{Where, less, equal, greater, Inserted, new, replacing, notInserted, Ahead, wouldAdd, wouldReplace, wouldRefuse, notWithinCapacity, failedOrdRequirement}
 use Rattle.rules.specs.Place.{Spot, nowhere, spot, spotOf}
-
--- the queue with another tree
-abbrev pub withTree : Tree → Queue → Queue
-withTree t q = record { capacity = q .capacity; top = q .top; tree = t; free = q .free }
 
 -- A new entry takes the first free handle. "a new entry is needed and no slot is free": 1.
 unfoldable pub addWith : List Handle → ℕ → ℕ → Way → Queue → Inserted × Queue
 addWith [] key value p q = (notInserted notWithinCapacity, q)
-addWith (h ∷ rest) key value p q =
-    (new h, record { capacity = q .capacity; top = q .top; tree = insertAt (entryWith h key value) p; free = rest })
+addWith (h ∷ rest) key value p q = (new h, changed (insertAt (entryWith h key value) p) rest q)
 
 abbrev pub addAt : ℕ → ℕ → Way → Queue → Inserted × Queue
 addAt key value p q = addWith (q .free) key value p q
 
 -- "the value is replaced, the old one returned, the handle kept, no slot used"
 abbrev pub swapAt : ℕ → Tree → Entry → ℕ → Tree → Way → Queue → Inserted × Queue
-swapAt value a x r b p q = (replacing (handleOf x) (x .value), withTree (replaceAt value (place (fork a x r b) p)) q)
+swapAt value a x r b p q = (replacing (handleOf x) (x .value), changed (replaceAt value (place (fork a x r b) p)) (q .free) q)
 
 -- Normal: "search from the root .. to an equal key or a missing child"
 unfoldable pub placeNormal : Place → ℕ → ℕ → Queue → Inserted × Queue
@@ -46,10 +41,6 @@ placeEmpty (fork a x r b) key value q = (notInserted failedOrdRequirement, q)
 
 unfoldable pub insertEmpty : ℕ → ℕ → Queue → Inserted × Queue
 insertEmpty key value q = placeEmpty (q .tree) key value q
-
--- Manual's sides
-pub data Where : Type 0 where
-  less equal greater : Where
 
 -- an entry of which only the key is meant
 abbrev pub keyed : ℕ → Entry
@@ -93,6 +84,17 @@ placeManual (spot a x r b p) greater key value q = addBeside right x (place (for
 unfoldable pub insertManual : Handle → Where → ℕ → ℕ → Queue → Inserted × Queue
 insertManual h w key value q = placeManual (spotOf h q) w key value q
 
+-- the kinds of insertion; a further kind is one constructor more
+pub data Kind : Type 0 where
+  normal : Kind
+  onEmpty : Kind
+  manual : Handle → Where → Kind
+
+abbrev pub insert : Kind → ℕ → ℕ → Queue → Inserted × Queue
+insert normal key value q = insertNormal key value q
+insert onEmpty key value q = insertEmpty key value q
+insert (manual h w) key value q = insertManual h w key value q
+
 -- "The look-ahead tells New or Replacing with the handle, or the refusal, that the same insertion would get next; it changes nothing."
 -- The value put in has no part in it, so none is asked for: 0 stands for it here.
 unfoldable pub ahead : Inserted → Ahead
@@ -100,11 +102,5 @@ ahead (new h) = wouldAdd h
 ahead (replacing h old) = wouldReplace h
 ahead (notInserted n) = wouldRefuse n
 
-unfoldable pub aheadNormal : ℕ → Queue → Ahead
-aheadNormal key q = ahead (insertNormal key 0 q .0)
-
-unfoldable pub aheadEmpty : ℕ → Queue → Ahead
-aheadEmpty key q = ahead (insertEmpty key 0 q .0)
-
-unfoldable pub aheadManual : Handle → Where → ℕ → Queue → Ahead
-aheadManual h w key q = ahead (insertManual h w key 0 q .0)
+unfoldable pub foresee : Kind → ℕ → Queue → Ahead
+foresee kind key q = ahead (insert kind key 0 q .0)

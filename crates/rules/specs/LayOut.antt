@@ -1,22 +1,25 @@
--- Laying out, as far as a queue has to do with it: capacity and top in their ranges give a fresh queue, else 4.
--- A reader may rely on this: that a store is long enough is the store's part, and refused 4 there too.
-use Prim.Native.Nat.{ℕ, _≤_}
-use native.Mathlib.Decide.{decLe}
-use Rattle.wavl.specs.Lists.{choose}
-use Rattle.rules.specs.Queue.{Queue, fresh, decBoth}
-use Rattle.rules.specs.Answers.{badLayout}
-use Rattle.handle.specs.Numbers.{limit, topLimit}
+-- Laying out (document 01, "What a queue holds" and number 4): a fresh queue whatever was there, or 4 and nothing changed.
+-- A reader may rely on this: `enough` alone speaks of the store; crate `demand` shows that its test is the store's own.
+use mathlib.Core.Path.{_≡_}
+use mathlib.Core.Bool.{Bool, true, false, _&&_}
+use Prim.Native.Nat.{ℕ}
+use lib.Dec.{leb}
+use Rattle.handle.specs.Numbers.{limit, topLimit, InRange}
+use Rattle.rules.specs.Queue.{Queue, fresh}
+use Rattle.rules.specs.Answers.{Laid, laid, notLaid, badLayout}
 
-pub data LaidOut : Type 0 where
-  laidOut : Queue → LaidOut
-  notLaidOut : ℕ → LaidOut
+-- "capacity or top generation out of range, or a store too short" does not hold
+pub record Good (enough : ℕ → Bool) (capacity top : ℕ) : Type 0 where
+  pub range : InRange capacity top
+  pub long : enough capacity ≡ true
 
--- "laying out with capacity or top generation out of range": 4
-abbrev pub Ranges : ℕ → ℕ → Type 0
-Ranges capacity top = ((1 ≤ capacity) × (capacity ≤ limit)) × ((1 ≤ top) × (top ≤ topLimit))
+-- the same as a test
+abbrev pub good : (ℕ → Bool) → ℕ → ℕ → Bool
+good enough capacity top = leb 1 capacity && leb capacity limit && leb 1 top && leb top topLimit && enough capacity
 
-unfoldable pub decRanges : (capacity top : ℕ) → Dec (Ranges capacity top)
-decRanges capacity top = decBoth (decBoth (decLe 1 capacity) (decLe capacity limit)) (decBoth (decLe 1 top) (decLe top topLimit))
+abbrev pub laidBy : Bool → ℕ → ℕ → Queue → Laid × Queue
+laidBy true capacity top q = (laid, fresh capacity top)
+laidBy false capacity top q = (notLaid badLayout, q)
 
-unfoldable pub layOut : ℕ → ℕ → LaidOut
-layOut capacity top = choose (decRanges capacity top) (laidOut (fresh capacity top)) (notLaidOut badLayout)
+unfoldable pub layOut : (ℕ → Bool) → ℕ → ℕ → Queue → Laid × Queue
+layOut enough capacity top q = laidBy (good enough capacity top) capacity top q

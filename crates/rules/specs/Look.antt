@@ -8,7 +8,7 @@ use Rattle.wavl.specs.Tree.{Side, left, right, fork}
 use Rattle.wavl.specs.Way.{place, neighbour}
 use Rattle.wavl.specs.Search
 use Rattle.rules.specs.Queue.{Handle, handleOf, Queue, entries}
-use Rattle.rules.specs.Answers.{Read, reads, notRead, Found, equalAt, beside, noEntry, Stepped, stands, ends, notStepped, invalidPtr}
+use Rattle.rules.specs.Answers.{Where, less, greater, Read, reads, notRead, Found, equalAt, beside, noEntry, Stepped, stands, ends, notStepped, invalidPtr}
 use Rattle.rules.specs.Place.{Spot, nowhere, spot, spotOf}
 
 -- "Reading and removal answer key and value."
@@ -20,9 +20,13 @@ unfoldable pub read : Handle → Queue → Read
 read h q = readSpot (spotOf h q)
 
 -- "Search as a call answers the equal entry's handle, or the last node's handle and the side, or Empty, each with the count."
+abbrev pub whereOf : Side → Where
+whereOf left = less
+whereOf right = greater
+
 unfoldable pub foundIn : Search.Found → Found
 foundIn (Search.equalTo x n) = equalAt (handleOf x) n
-foundIn (Search.nearest x d n) = beside (handleOf x) d n
+foundIn (Search.nearest x d n) = beside (handleOf x) (whereOf d) n
 foundIn Search.emptyTree = noEntry 0
 
 unfoldable pub searchFor : ℕ → Queue → Found
@@ -38,6 +42,14 @@ first q = standsAt (Lists.first (entries q))
 
 unfoldable pub last : Queue → Stepped
 last q = standsAt (Lists.last (entries q))
+
+-- there, by the handle given; 3 where it names no live entry
+unfoldable pub standSpot : Handle → Spot → Stepped
+standSpot h nowhere = notStepped invalidPtr
+standSpot h (spot a x r b p) = stands h
+
+unfoldable pub standAt : Handle → Queue → Stepped
+standAt h q = standSpot h (spotOf h q)
 
 -- "a chain cursor steps forward or back and is handed back moved, by handle; at an end the answer is End"
 unfoldable pub stepSpot : Side → Spot → Stepped

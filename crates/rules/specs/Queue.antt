@@ -35,8 +35,15 @@ unfoldable pub freshFrom : ℕ → ℕ → List Handle
 freshFrom s zero = []
 freshFrom s (suc n) = handle s 1 ∷ freshFrom (suc s) n
 
+-- A queue is made and changed here alone: of its four parts, and by another tree and another free list.
+abbrev pub queueOf : ℕ → ℕ → Tree → List Handle → Queue
+queueOf capacity top tree free = record { capacity = capacity; top = top; tree = tree; free = free }
+
+abbrev pub changed : Tree → List Handle → Queue → Queue
+changed tree free q = queueOf (q .capacity) (q .top) tree free
+
 unfoldable pub fresh : ℕ → ℕ → Queue
-fresh capacity top = record { capacity = capacity; top = top; tree = tip; free = freshFrom 0 capacity }
+fresh capacity top = queueOf capacity top tip (freshFrom 0 capacity)
 
 -- the entries in the tree's left-to-right order: the chain
 abbrev pub entries : Queue → List Entry

@@ -6,7 +6,7 @@ use native.Mathlib.Decide.{decLt}
 use Rattle.wavl.specs.Entry.{Entry}
 use Rattle.wavl.specs.Tree.{fork}
 use Rattle.wavl.specs.Taking.{removeAt}
-use Rattle.rules.specs.Queue.{Handle, handle, Queue}
+use Rattle.rules.specs.Queue.{Handle, handle, Queue, changed}
 use Rattle.rules.specs.Answers.{Note, noNote, generationOverflow, Removed, removed, notRemoved, invalidPtr}
 use Rattle.rules.specs.Place.{Spot, nowhere, spot, spotOf}
 
@@ -29,7 +29,7 @@ unfoldable pub removeSpot : Spot → Queue → Removed × Queue
 removeSpot nowhere q = (notRemoved invalidPtr, q)
 removeSpot (spot a x r b p) q = (
   removed (x .key) (x .value) (noteOf (decLt (x .generation) (q .top))),
-  record { capacity = q .capacity; top = q .top; tree = removeAt (fork a x r b) p; free = freeAfter x q },
+  changed (removeAt (fork a x r b) p) (freeAfter x q) q,
 )
 
 unfoldable pub remove : Handle → Queue → Removed × Queue

@@ -3,6 +3,7 @@
 -- together (proofs/Single), so that these facts leave no second answer.
 use mathlib.Core.Path.{_≡_}
 use mathlib.Core.Logic.{_⊎_}
+use mathlib.Core.Bool.{Bool}
 use mathlib.Core.List.{List, [], _∷_, _++_}
 use mathlib.Core.Option.{some}
 use Prim.Native.Nat.{ℕ, _<_}
@@ -12,8 +13,9 @@ use Rattle.wavl.specs.Entry.{Entry}
 use Rattle.wavl.specs.Tree.{Side, left, right}
 use Rattle.wavl.specs.Search.{path}
 use Rattle.rules.specs.Queue.{Handle, handleOf, Queue, entries, Holds, Has, Names, Live}
-use Rattle.rules.specs.Answers.{Inserted, new, replacing, notInserted, Note, noNote, generationOverflow, Removed, removed, notRemoved, Read, reads, notRead, Stepped, stands, ends, notStepped, Found, equalAt, beside, noEntry, notWithinCapacity, failedOrdRequirement, invalidPtr}
-use Rattle.rules.specs.Insert.{Where, less, equal, greater, keyed, Between}
+use Rattle.rules.specs.Answers.{Where, less, equal, greater, Laid, laid, notLaid, Inserted, new, replacing, notInserted, Ahead, wouldAdd, wouldReplace, wouldRefuse, Note, noNote, generationOverflow, Removed, removed, notRemoved, Read, reads, notRead, Stepped, stands, ends, notStepped, Found, equalAt, beside, noEntry, notFound, notWithinCapacity, failedOrdRequirement, invalidPtr, badLayout}
+use Rattle.rules.specs.LayOut.{Good}
+use Rattle.rules.specs.Insert.{keyed, Between, Kind, normal, onEmpty, manual}
 
 -- "no slot is free"; or h is the next to be handed out
 abbrev pub NoSlot : Queue → Type 0
@@ -69,6 +71,22 @@ ManualAnswers h w key q (replacing g v) =
 ManualAnswers h w key q (notInserted n) =
     ((n ≡ failedOrdRequirement) × (¬ ManualFits h w key q)) ⊎ ((n ≡ notWithinCapacity) × ManualFits h w key q × Adding w × NoSlot q)
 
+-- an insertion of any kind, and its look-ahead: "New or Replacing with the handle, or the refusal, that the same insertion would get"
+abbrev pub InsertAnswers : Kind → ℕ → Queue → Inserted → Type 0
+InsertAnswers normal key q a = NormalAnswers key q a
+InsertAnswers onEmpty key q a = EmptyAnswers q a
+InsertAnswers (manual h w) key q a = ManualAnswers h w key q a
+
+abbrev pub AheadAnswers : Kind → ℕ → Queue → Ahead → Type 0
+AheadAnswers kind key q (wouldAdd h) = InsertAnswers kind key q (new h)
+AheadAnswers kind key q (wouldReplace h) = (v : ℕ) × InsertAnswers kind key q (replacing h v)
+AheadAnswers kind key q (wouldRefuse n) = InsertAnswers kind key q (notInserted n)
+
+-- "laying out with capacity or top generation out of range, or a store too short": 4, and never otherwise
+abbrev pub LayAnswers : (ℕ → Bool) → ℕ → ℕ → Laid → Type 0
+LayAnswers enough capacity top laid = Good enough capacity top
+LayAnswers enough capacity top (notLaid n) = (n ≡ badLayout) × (¬ Good enough capacity top)
+
 -- "removal, reading or stepping with a handle that names no live entry": 3, and never otherwise
 -- "At the top generation the entry is still removed and returned, with the note GenerationOverflow"
 abbrev pub NoteFits : Note → Entry → Queue → Type 0
@@ -83,34 +101,53 @@ abbrev pub ReadAnswers : Handle → Queue → Read → Type 0
 ReadAnswers h q (reads k v) = (x : Entry) × Holds q x × Names h x × (x .key ≡ k) × (x .value ≡ v)
 ReadAnswers h q (notRead n) = (n ≡ invalidPtr) × (¬ Live h q)
 
+-- the entry at the end of a chain, the last of it for left and the first for right; End where it has none
+abbrev pub EndIs : Side → List Entry → Stepped → Type 0
+EndIs left l (stands g) = (m : List Entry) × (y : Entry) × (l ≡ m ++ (y ∷ [])) × (g ≡ handleOf y)
+EndIs right l (stands g) = (y : Entry) × (m : List Entry) × (l ≡ y ∷ m) × (g ≡ handleOf y)
+EndIs d l ends = l ≡ []
+EndIs d l (notStepped n) = ⊥
+
+-- "on an empty queue first and last answer End": the chain seen from before its first entry, and from behind its last
+abbrev pub FirstAnswers : Queue → Stepped → Type 0
+FirstAnswers q a = EndIs right (entries q) a
+
+abbrev pub LastAnswers : Queue → Stepped → Type 0
+LastAnswers q a = EndIs left (entries q) a
+
+-- "It starts at .. a live handle": there, or 3
+abbrev pub StandAnswers : Handle → Queue → Stepped → Type 0
+StandAnswers h q (stands g) = (g ≡ h) × Live h q
+StandAnswers h q ends = ⊥
+StandAnswers h q (notStepped n) = (n ≡ invalidPtr) × (¬ Live h q)
+
 -- Stepping: the entry next to the handle's in the chain; End where none is there
-abbrev pub Facing : Side → List Entry → Entry → List Entry → Stepped → Type 0
-Facing left a x b (stands g) = (l : List Entry) × (y : Entry) × (a ≡ l ++ (y ∷ [])) × (g ≡ handleOf y)
-Facing left a x b ends = a ≡ []
-Facing left a x b (notStepped n) = ⊥
-Facing right a x b (stands g) = (y : Entry) × (l : List Entry) × (b ≡ y ∷ l) × (g ≡ handleOf y)
-Facing right a x b ends = b ≡ []
-Facing right a x b (notStepped n) = ⊥
+abbrev pub Rest : Side → {h : Handle} {q : Queue} → Target h q → List Entry
+Rest left t = t .smaller
+Rest right t = t .greater
 
 abbrev pub StepAnswers : Side → Handle → Queue → Stepped → Type 0
-StepAnswers d h q (stands g) = (t : Target h q) × Facing d (t .smaller) (t .target) (t .greater) (stands g)
-StepAnswers d h q ends = (t : Target h q) × Facing d (t .smaller) (t .target) (t .greater) ends
+StepAnswers d h q (stands g) = (t : Target h q) × EndIs d (Rest d t) (stands g)
+StepAnswers d h q ends = (t : Target h q) × EndIs d (Rest d t) ends
 StepAnswers d h q (notStepped n) = (n ≡ invalidPtr) × (¬ Live h q)
 
 -- Search as a call: the equal entry, or the last node of the path with the side of it on which the key would stand, or Empty; the
 -- count is "the length of that path in the stored tree; 0 when empty". No refusal.
-abbrev pub KeyOn : Side → ℕ → Entry → Type 0
-KeyOn left key x = key < x .key
-KeyOn right key x = x .key < key
+abbrev pub KeyOn : Where → ℕ → Entry → Type 0
+KeyOn less key x = key < x .key
+KeyOn equal key x = ⊥
+KeyOn greater key x = x .key < key
 
 abbrev pub SearchAnswers : ℕ → Queue → Found → Type 0
 SearchAnswers key q (equalAt h n) = (x : Entry) × Holds q x × Names h x × (x .key ≡ key) × (n ≡ length (path key (q .tree)))
 SearchAnswers key q (beside h d n) =
     (¬ Has key q) × ((x : Entry) × Holds q x × Names h x × KeyOn d key x × (last (path key (q .tree)) ≡ some x)) × (n ≡ length (path key (q .tree)))
 SearchAnswers key q (noEntry n) = (n ≡ 0) × NoEntries q
+SearchAnswers key q (notFound n) = ⊥
 
 -- the count that each answer carries
 abbrev pub countOf : Found → ℕ
 countOf (equalAt h n) = n
 countOf (beside h d n) = n
 countOf (noEntry n) = n
+countOf (notFound n) = 0
