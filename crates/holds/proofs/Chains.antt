@@ -72,7 +72,7 @@ module _ {s : List ℕ} {q : Queue} (h : Holds s q) where
   cap = q .capacity
 
   -- a link to an entry of the queue, or to none
-  link-means : (o : Option Entry) → ((y : Entry) → o ≡ some y → In y (entries q)) → stepMeans (followed s cap (slotOf o)) ≡ some (standsAt o)
+  link-means : (o : Option Entry) → ((y : Entry) → o ≡ some y → In y (entries q)) → stepMeans (followed s cap (slotOf o)) ≡ standsAt o
   unfolding standsAt
   link-means none i = rw (follow-none s cap noSlot refl)
   link-means (some y) i =
@@ -89,11 +89,11 @@ module _ {s : List ℕ} {q : Queue} (h : Holds s q) where
   last-in l y e = let i = last-split l y e in rw (i .1) (in-middle y (i .0) [])
 
   -- "It starts at first, last or a live handle; on an empty queue first and last answer End."
-  pub first-means : stepMeans (endOf s cap 0) ≡ some (Look.first q)
+  pub first-means : stepMeans (endOf s cap 0) ≡ Look.first q
   unfolding endOf Look.first
   first-means = rw (h .rule-3 .first-is, first-slot (entries q)) (link-means (first (entries q)) (first-in (entries q)))
 
-  pub last-means : stepMeans (endOf s cap 1) ≡ some (Look.last q)
+  pub last-means : stepMeans (endOf s cap 1) ≡ Look.last q
   unfolding endOf Look.last
   last-means = rw (h .rule-3 .last-is, last-slot (entries q)) (link-means (last (entries q)) (last-in (entries q)))
 
@@ -105,7 +105,7 @@ module _ {s : List ℕ} {q : Queue} (h : Holds s q) where
     around = chain-at s cap (smallerOf a p) x (greaterOf b p) noSlot (rw whole at (h .rule-3 .chain))
 
     -- "a chain cursor steps forward or back and is handed back moved, by handle; at an end the answer is End"
-    step-spot : (d : Side) → stepMeans (stepFrom s cap (x .slot) (number d)) ≡ some (standsAt (neighbour d (place (fork a x r b) p)))
+    step-spot : (d : Side) → stepMeans (stepFrom s cap (x .slot) (number d)) ≡ standsAt (neighbour d (place (fork a x r b) p))
     unfolding stepFrom neighbour
     step-spot left =
         let back : field s cap (x .slot) PREV ≡ endOr noSlot (smallerOf a p) = around .prev-is in
@@ -116,10 +116,10 @@ module _ {s : List ℕ} {q : Queue} (h : Holds s q) where
         (link-means (first (greaterOf b p)) (λ y f. rw whole (in-right y (smallerOf a p) _ (inr (first-in (greaterOf b p) y f)))))
 
   pub step-means : (k : H.Handle) (x : Entry) → In x (entries q) → Names (plain k) x → (d : Side)
-      → stepMeans (stepFrom s cap (k .slot .0) (number d)) ≡ some (stepTo d (plain k) q)
+      → stepMeans (stepFrom s cap (k .slot .0) (number d)) ≡ stepTo d (plain k) q
   unfolding stepTo stepSpot
   step-means k x i n d = go (spotOf (plain k) q) (spot-is (plain k) q (live-once (sound-of h)))
     where
-      go : (w : Spot) → SpotIs (plain k) q w → stepMeans (stepFrom s cap (k .slot .0) (number d)) ≡ some (stepSpot d w)
+      go : (w : Spot) → SpotIs (plain k) q w → stepMeans (stepFrom s cap (k .slot .0) (number d)) ≡ stepSpot d w
       go nowhere f = absurd (f (x, i, n))
       go (spot a y r b p) f = rw (← f .0 .0) (step-spot a y r b p (f .1) d)

@@ -3,7 +3,6 @@
 use Prim.Native.Nat.{ℕ, zero, suc, _+_, _≤_, _<_}
 use mathlib.Core.Path.{_≡_, refl, sym, ap, _∙_}
 use mathlib.Core.List.{List, [], _∷_}
-use mathlib.Core.Option.{some}
 use native.Mathlib.Omega.{arith}
 use lib.ListN.{length}
 use Rattle.handle.specs.Numbers.{noSlot}
@@ -23,7 +22,7 @@ use Rattle.wavl.proofs.Size.{rank-le-31}
 use Rattle.wavl.proofs.Rounds.{key-cases}
 use Rattle.wavl.proofs.Reply.{Answers, answer-right}
 use Rattle.rules.specs.Queue.{Queue}
-use Rattle.rules.specs.Look.{foundIn, searchFor}
+use Rattle.rules.specs.Look.{whereOf, foundIn, searchFor}
 use Rattle.holds.specs.Ends.{topSlot, number}
 use Rattle.holds.specs.Links.{Links}
 use Rattle.holds.specs.Entries.{EntryWords, AllEntries}
@@ -87,15 +86,15 @@ seek-is {s} {q} h k =
     seek-root-tree s (q .capacity) k (few-slots (words-of h)) (q .tree) (h .rule-1 .root) (h .rule-1 .links) (h .live) x (omega arith)
 
 -- the answer that crate `rules` gives: the slot's generation is the entry's
-pub seek-means : {s : List ℕ} {q : Queue} → Holds s q → (k : ℕ) → foundMeans s (q .capacity) (seekModel s (q .capacity) k) ≡ some (searchFor k q)
+pub seek-means : {s : List ℕ} {q : Queue} → Holds s q → (k : ℕ) → foundMeans s (q .capacity) (seekModel s (q .capacity) k) ≡ searchFor k q
 unfolding searchFor foundIn
 seek-means {s} {q} h k = rw (seek-is h k) (go (answer (search k (q .tree))) (answer-right k (q .tree) (h .rule-4)))
   where
-    sided : (d : Side) → sideNo (number d) ≡ d
+    sided : (d : Side) → sideNo (number d) ≡ whereOf d
     sided left = refl
     sided right = refl
 
-    go : (a : Found) → Answers k (q .tree) a → foundMeans s (q .capacity) (inSlots a) ≡ some (foundIn a)
+    go : (a : Found) → Answers k (q .tree) a → foundMeans s (q .capacity) (inSlots a) ≡ foundIn a
     go (equalTo e n) f = rw (live-entry h e (f .present) .generation-is)
     go (nearest e d n) f = rw (live-entry h e (f .present) .generation-is, sided d)
     go emptyTree f = refl

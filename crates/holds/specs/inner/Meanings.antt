@@ -1,16 +1,14 @@
 -- What the answers of crates `find` and `chain` mean: a slot of the words as a handle, with the generation that the words hold.
 -- Document 01: "Search as a call answers the equal entry's handle, or the last node's handle and the side, or Empty, each with the
--- count"; "at an end the answer is End". Refusal 5, which a sound store never meets, has no meaning.
+-- count"; "at an end the answer is End". Refusal 5 is never met on a sound store.
 use Prim.Native.Nat.{ℕ, zero, suc}
 use mathlib.Core.List.{List}
-use mathlib.Core.Option.{Option, some, none}
 use Rattle.arena.specs.Words.{field, GENERATION}
 use Rattle.find.specs.declared.Found as F
 use Rattle.chain.specs.declared.Stepped as C
-use Rattle.wavl.specs.Tree.{Side, left, right}
 use Rattle.wavl.specs.Search as Search
 use Rattle.rules.specs.Queue.{Handle, handle}
-use Rattle.rules.specs.Answers.{Found, equalAt, beside, noEntry, Stepped, stands, ends}
+use Rattle.rules.specs.Answers.{Where, less, greater, Found, equalAt, beside, noEntry, notFound, Stepped, stands, ends, notStepped, notSound}
 use Rattle.holds.specs.Ends.{number}
 use Rattle.holds.specs.Handles.{plain}
 
@@ -21,21 +19,21 @@ inSlots (Search.nearest e d n) = F.the-variants.Beside (e .slot) (number d) n
 inSlots Search.emptyTree = F.the-variants.Empty
 
 -- a side by its number
-abbrev pub sideNo : ℕ → Side
-sideNo zero = left
-sideNo (suc n) = right
+abbrev pub sideNo : ℕ → Where
+sideNo zero = less
+sideNo (suc n) = greater
 
 -- the slot's handle
 abbrev pub handleAt : List ℕ → ℕ → ℕ → Handle
 handleAt s cap p = handle p (field s cap p GENERATION)
 
-abbrev pub foundMeans : List ℕ → ℕ → F.Found → Option Found
-foundMeans s cap (F.the-variants.Equal p n) = some (equalAt (handleAt s cap p) n)
-foundMeans s cap (F.the-variants.Beside p d n) = some (beside (handleAt s cap p) (sideNo d) n)
-foundMeans s cap F.the-variants.Empty = some (noEntry 0)
-foundMeans s cap F.the-variants.NotSound = none
+abbrev pub foundMeans : List ℕ → ℕ → F.Found → Found
+foundMeans s cap (F.the-variants.Equal p n) = equalAt (handleAt s cap p) n
+foundMeans s cap (F.the-variants.Beside p d n) = beside (handleAt s cap p) (sideNo d) n
+foundMeans s cap F.the-variants.Empty = noEntry 0
+foundMeans s cap F.the-variants.NotSound = notFound notSound
 
-abbrev pub stepMeans : C.Stepped → Option Stepped
-stepMeans (C.the-variants.At h) = some (stands (plain h))
-stepMeans C.the-variants.End = some ends
-stepMeans C.the-variants.NotSound = none
+abbrev pub stepMeans : C.Stepped → Stepped
+stepMeans (C.the-variants.At h) = stands (plain h)
+stepMeans C.the-variants.End = ends
+stepMeans C.the-variants.NotSound = notStepped notSound
