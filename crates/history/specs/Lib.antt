@@ -3,4 +3,3 @@ pub mod Deed
 pub mod Left
 pub mod Demand
 pub mod Follow
-pub mod inner

@@ -7,11 +7,11 @@ use lib.ListN.{length}
 use Rattle.wavl.specs.Lists.{All}
 use Rattle.wavl.specs.Entry.{Entry}
 use Rattle.wavl.specs.Tree.{Tree, tip, fork, leaf, size}
 use Rattle.rules.specs.Queue.{Handle, handle, Queue, fresh}
 use Rattle.rules.specs.Answers.{new, replacing, notInserted, noNote, generationOverflow, removed, notWithinCapacity, failedOrdRequirement}
 use Rattle.rules.specs.Insert.{less}
 use Rattle.rules.specs.Calls.{Call, normal, onEmpty, manual, removal, Answer, insertion, taken, run}
-use Rattle.rules.specs.Due.{minus, fromKey, timeIs}
+use Rattle.due.specs.Due.{minus, fromKey, timeIs}
 use lib.IntN.{pos}
 
 -- the stored form of document 01's key n

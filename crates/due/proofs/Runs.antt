@@ -3,8 +3,8 @@
 use mathlib.Core.Path.{_≡_, refl}
 use mathlib.Core.List.{List, [], _∷_, map}
 use lib.IntN.{ℤ, pos}
-use Rattle.rules.specs.Due.{minus, within, momentOf, dayOf, secondOf, KeyFound, keyIs, noKey, TimeFound, timeIs, noTime, toKey, fromKey}
-use Rattle.rules.specs.DueFloor.{floorDiv, floorMod}
+use Rattle.due.specs.Due.{minus, within, momentOf, dayOf, secondOf, KeyFound, keyIs, noKey, TimeFound, timeIs, noTime, toKey, fromKey}
+use Rattle.due.specs.Floor.{floorDiv, floorMod}
 
 -- "Day -1, second 86,399, offset 0 gives -1, and back the same."
 pub day-before : (toKey (minus 1) (pos 86_399) (pos 0) ≡ keyIs (minus 1)) × (fromKey (minus 1) (pos 0) ≡ timeIs (minus 1) (pos 86_399))

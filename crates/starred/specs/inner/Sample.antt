@@ -6,9 +6,9 @@ use lib.ListN.{length}
 use Rattle.wavl.specs.Entry.{Entry}
 use Rattle.rules.specs.Queue.{Handle, handle, fresh}
 use Rattle.rules.specs.Calls.{Call, lookNormal, removal, reading, searching, run}
-use Rattle.rules.specs.Bench.{key, put, take, ent}
+use Rattle.starred.specs.Starred.{key, put, take, ent}
 use Rattle.history.specs.Deed.{paired}
 use Rattle.history.specs.Left.{left, given, gone, noted}
 
 -- capacity 2, top generation 2: 10, 20, 10 again (replaces), read it, 30 (refused 1), remove 20, once more (refused 3), look ahead
 -- at 30 and put it in 20's slot, remove that (noted), 40 (refused 1), search 10
