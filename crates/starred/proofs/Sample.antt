@@ -14,11 +14,10 @@ use Rattle.rules.specs.Insert.{addWith, placeNormal, insertNormal, ahead, ahead
 use Rattle.rules.specs.Look.{readSpot, read, foundIn, searchFor}
 use Rattle.rules.specs.Remove.{freed, noteOf, removeSpot, remove}
 use Rattle.rules.specs.Calls.{answer, run}
-use Rattle.starred.specs.Starred.{key, put, take, ent}
 use Rattle.history.specs.Deed.{paired, byInsertion, byRemoval, deed}
 use Rattle.history.specs.Left.{revalue, without, does, leaves, gives, given, drops, gone, noteCount, notes, noted}
 use Rattle.starred.specs.inner.Sample.{script, shown, expected}
 
 pub sample : shown ≡ expected
-unfolding decLe decLt ℕ-discrete choose first last inorder plug before after neighbour replaceAt placeRound byPlace insertClimb insertAt takeRound byTake removeClimb settle endmost vacateEnd vacate removeAt keyRound byKey find findSlot freshFrom fresh ofGeneration spotOf addWith placeNormal insertNormal ahead aheadNormal readSpot read foundIn searchFor freed noteOf removeSpot remove answer run key put take ent paired byInsertion byRemoval deed revalue without does leaves gives given drops gone noteCount notes noted script shown expected
+unfolding decLe decLt ℕ-discrete choose first last inorder plug before after neighbour replaceAt placeRound byPlace insertClimb insertAt takeRound byTake removeClimb settle endmost vacateEnd vacate removeAt keyRound byKey find findSlot freshFrom fresh ofGeneration spotOf addWith placeNormal insertNormal ahead aheadNormal readSpot read foundIn searchFor freed noteOf removeSpot remove answer run paired byInsertion byRemoval deed revalue without does leaves gives given drops gone noteCount notes noted script shown expected
 sample = refl

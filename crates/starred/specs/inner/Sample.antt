@@ -10,10 +10,14 @@ use Rattle.starred.specs.Starred.{key, put, take, ent}
 use Rattle.history.specs.Deed.{paired}
 use Rattle.history.specs.Left.{left, given, gone, noted}
 
+-- the look-ahead of Normal
+abbrev pub foresee : ℕ → Call
+foresee k = lookNormal (key k)
+
 -- capacity 2, top generation 2: 10, 20, 10 again (replaces), read it, 30 (refused 1), remove 20, once more (refused 3), look ahead
 -- at 30 and put it in 20's slot, remove that (noted), 40 (refused 1), search 10
 unfoldable pub script : List Call
-script = put 10 1 ∷ put 20 2 ∷ put 10 5 ∷ reading (handle 0 1) ∷ put 30 3 ∷ take 1 ∷ take 1 ∷ lookNormal (key 30) ∷ put 30 3
+script = put 10 1 ∷ put 20 2 ∷ put 10 5 ∷ reading (handle 0 1) ∷ put 30 3 ∷ take 1 ∷ take 1 ∷ foresee 30 ∷ put 30 3
     ∷ removal (handle 1 2) ∷ put 40 4 ∷ searching (key 10) ∷ []
 
 pub record Shown : Type 0 where
