@@ -1,5 +1,12 @@
--- What the proofs of the functions share. For a reader: Single, that no second answer meets a promise.
+-- For a reader: Times (the laws of due times), Runs (document 01's examples), Floors (floor and remainder) and Single (no second
+-- answer meets a promise). The other modules lead up to these and to the proofs of the functions.
+pub mod Signs
+pub mod Floors
+pub mod Ranges
+pub mod Moments
+pub mod Times
+pub mod Runs
 pub mod Sizes
 pub mod Mended
-pub mod Moments
+pub mod NoOverflow
 pub mod Single

@@ -1,5 +1,5 @@
 -- Division toward zero, mended toward the floor: what `floored` computes from `/` and `%` is the floor and the remainder
--- of the crate `rules`. Assumes nothing.
+-- of specs/Floor. Assumes nothing.
 use mathlib.Core.Path.{_≡_, refl, sym, ap, _∙_}
 use mathlib.Core.Bool.{true, false}
 use Prim.Native.Nat.{ℕ, suc, _+_, _*_, _/_, _%_, _≤_, _<_, _^_}
@@ -9,9 +9,9 @@ use lib.IntN.{ℤ, pos, negsuc, _+ℤ_, _-ℤ_}
 use lib.Signed.{ltZ, quotZ, remZ}
 use mir.Syntax.{w32, w64}
 use mir.Val.{Fits, SFits}
-use Rattle.rules.specs.DueFloor.{Floored, floorDiv, floorMod}
-use Rattle.rules.proofs.DueSigns.{up, down, apart, equal, sum-law, diff-law, up-neg, down-neg, ltZ-true, ltZ-false}
-use Rattle.rules.proofs.DueFloors.{floored, floored-in, floored-one}
+use Rattle.due.specs.Floor.{Floored, floorDiv, floorMod}
+use Rattle.due.proofs.Signs.{up, down, apart, equal, sum-law, diff-law, up-neg, down-neg, ltZ-true, ltZ-false}
+use Rattle.due.proofs.Floors.{floored, floored-in, floored-one}
 use Rattle.due.proofs.Sizes.{sizes, fits}
 
 -- ---- `/` and `%` by a positive number, in naturals

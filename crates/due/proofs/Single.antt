@@ -4,7 +4,7 @@ use mathlib.Core.Path.{_≡_, refl, sym, ap, _∙_}
 use Prim.Native.Nat.{ℕ}
 use native.Mathlib.Omega.{arith}
 use lib.IntN.{ℤ}
-use Rattle.rules.specs.Due.{toKey, fromKey}
+use Rattle.due.specs.Due.{toKey, fromKey}
 use Rattle.due.specs.declared.KeyAnswer.{KeyAnswer}
 use Rattle.due.specs.declared.KeyAnswer.the-variants as K
 use Rattle.due.specs.declared.Time.{Time}

@@ -1,4 +1,4 @@
--- Which signed numbers fit 64 bits, by their two naturals (`up` and `down` of the crate `rules`), so that omega shows that
+-- Which signed numbers fit 64 bits, by their two naturals (`up` and `down` of proofs/Signs), so that omega shows that
 -- a sum fits. Assumes nothing.
 use mathlib.Core.Path.{_≡_}
 use Prim.Native.Nat.{ℕ, _≤_, _<_, _^_}
@@ -7,7 +7,7 @@ use lib.IntN.{ℤ, pos, negsuc}
 use mir.Syntax.{w32, w64}
 use mir.Val.{Fits, SFits, toZ}
 use mir.Facts.{toZ-ofZ}
-use Rattle.rules.proofs.DueSigns.{up, down}
+use Rattle.due.proofs.Signs.{up, down}
 
 pub sizes : (z : ℤ) → SFits w64 z → (up z < 2 ^ 63) × (down z ≤ 2 ^ 63)
 sizes (pos n) f = (f .sfits, omega arith)

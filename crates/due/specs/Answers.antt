@@ -1,17 +1,19 @@
 -- Document 01's number and values for each case of the answers of this crate. The promises of `key_of` and `time_of`
 -- speak through these two definitions. Assumes nothing.
-use Rattle.rules.specs.Due.{KeyFound, keyIs, noKey, TimeFound, timeIs, noTime}
+use Rattle.handle.specs.Numbers.{refusalNumber}
+use Rattle.handle.specs.declared.Refusal.the-variants.{BadTime}
+use Rattle.due.specs.Due.{KeyFound, keyIs, noKey, TimeFound, timeIs, noTime}
 use Rattle.due.specs.declared.KeyAnswer.{KeyAnswer}
 use Rattle.due.specs.declared.KeyAnswer.the-variants as K
 use Rattle.due.specs.declared.TimeAnswer.{TimeAnswer}
 use Rattle.due.specs.declared.TimeAnswer.the-variants as T
 
--- `At` holds the key; `BadTime` is refusal 6
+-- `At` holds the key
 abbrev pub keyFound : KeyAnswer → KeyFound
 keyFound (K.At k) = keyIs k
-keyFound K.BadTime = noKey 6
+keyFound K.BadTime = noKey (refusalNumber BadTime)
 
--- `At` holds day and second; `BadTime` is refusal 6
+-- `At` holds day and second
 abbrev pub timeFound : TimeAnswer → TimeFound
 timeFound (T.At t) = timeIs (t .day) (t .second)
-timeFound T.BadTime = noTime 6
+timeFound T.BadTime = noTime (refusalNumber BadTime)

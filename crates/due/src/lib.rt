@@ -1,5 +1,5 @@
 // Due times (document 01, "Due times"): keys of local times and local times of keys, over signed 64-bit numbers.
-// A reader may rely on `key_of` and `time_of` giving, for every input, what `toKey` and `fromKey` of the crate `rules`
+// A reader may rely on `key_of` and `time_of` giving, for every input, what `toKey` and `fromKey` of specs/Due
 // say; nothing overflows on any numbers. Keys are plain i64 here, and the queue's crates wrap them where they want to.
 
 ghost use mathlib.Core.Path.{_≡_};
@@ -7,8 +7,8 @@ ghost use Prim.Native.Nat.{_<_};
 ghost use lib.IntN.{pos, _+ℤ_, _-ℤ_};
 ghost use mir.Syntax.{w64};
 ghost use mir.Val.{SFits};
-ghost use Rattle.rules.specs.Due.{within, GoodTime, momentOf, toKey, fromKey};
-ghost use Rattle.rules.specs.DueFloor.{floorDiv, floorMod};
+ghost use Rattle.due.specs.Due.{within, GoodTime, momentOf, toKey, fromKey};
+ghost use Rattle.due.specs.Floor.{floorDiv, floorMod};
 ghost use Rattle.due.specs.Answers.{keyFound, timeFound};
 
 // Document 01's ranges of a time's fields, both ends included.

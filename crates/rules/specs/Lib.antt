@@ -1,3 +1,4 @@
+-- The definitions of document 01, a module for each part of it.
 pub mod Queue
 pub mod Answers
 pub mod Place
@@ -8,8 +9,4 @@ pub mod Sound
 pub mod LayOut
 pub mod Table
 pub mod Calls
-pub mod Bench
--- The definitions of document 01, a module for each part of it.
-pub mod Due
-pub mod DueFloor
 pub mod inner

@@ -5,8 +5,8 @@ use mathlib.Core.Bool.{true, false}
 use borrow.Author.Needs.{needs, sfits-of}
 use borrow.Author.Tests.{not-true, not-false}
 use mir.Facts.{toZ-ofZ}
-use Rattle.rules.specs.Due.{goodDay, goodSecond, goodOffset, GoodTime, keyIs, toKey}
-use Rattle.rules.proofs.DueRanges.{good-fact, both}
+use Rattle.due.specs.Due.{goodDay, goodSecond, goodOffset, GoodTime, keyIs, toKey}
+use Rattle.due.proofs.Ranges.{good-fact, both}
 use Rattle.due.proofs.key_of.Statement.{statement}
 use Rattle.due.proofs.key_of.Tie as tie
 

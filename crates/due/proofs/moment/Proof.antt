@@ -1,12 +1,12 @@
--- `due::moment` meets its contract: no step overflows (proofs/Moments), so each is read back from its bits as it is.
+-- `due::moment` meets its contract: no step overflows (proofs/NoOverflow), so each is read back from its bits as it is.
 -- Assumes nothing.
 use mathlib.Core.Path.{_∙_}
 use borrow.Author.Needs.{sfits-of}
 use mir.Facts.{toZ-ofZ}
-use Rattle.rules.specs.Due.{momentOf}
+use Rattle.due.specs.Due.{momentOf}
 use Rattle.due.proofs.moment.Statement.{statement}
 use Rattle.due.proofs.moment.Tie as tie
-use Rattle.due.proofs.Moments.{days-fit, seconds-fit, moment-fits}
+use Rattle.due.proofs.NoOverflow.{days-fit, seconds-fit, moment-fits}
 
 mul-behind : tie.Need-mul-behind
 mul-behind c = rw (toZ-ofZ (c .fits .day)) (days-fit _ _ _ (c .pre))

@@ -1,5 +1,5 @@
 -- `due::time_of` meets its contract: the key is tested against the first and the last moment of the days in range, which
--- is the definition's test of the day (`day-range` of the crate `rules`), and then taken apart by `floored`.
+-- is the definition's test of the day (`day-range` of proofs/Moments), and then taken apart by `floored`.
 -- Assumes nothing.
 use mathlib.Core.Path.{_≡_, sym, ap₂, _∙_}
 use mathlib.Core.Bool.{true, false}
@@ -9,12 +9,12 @@ use lib.IntN.{_+ℤ_}
 use mir.Syntax.{w64}
 use mir.Val.{SFits}
 use mir.Facts.{toZ-ofZ}
-use Rattle.rules.specs.Due.{goodDay, goodOffset, within, Between, offsetLow, offsetHigh, momentOf, dayLow, dayHigh, secondLow, secondHigh, dayOf, secondOf, timeIs, fromKey}
-use Rattle.rules.proofs.DueRanges.{within-fact}
-use Rattle.rules.proofs.DueMoments.{day-range}
+use Rattle.due.specs.Due.{goodDay, goodOffset, within, Between, offsetLow, offsetHigh, momentOf, dayLow, dayHigh, secondLow, secondHigh, dayOf, secondOf, timeIs, fromKey}
+use Rattle.due.proofs.Ranges.{within-fact}
+use Rattle.due.proofs.Moments.{day-range}
 use Rattle.due.proofs.time_of.Statement.{statement}
 use Rattle.due.proofs.time_of.Tie as tie
-use Rattle.due.proofs.Moments.{ends-good, local-fits}
+use Rattle.due.proofs.NoOverflow.{ends-good, local-fits}
 
 -- ---- what the tests say
 

@@ -5,7 +5,7 @@ use lib.Signed.{leZ}
 use mir.Facts.{toZ-ofZ}
 use Rattle.due.proofs.within.Statement.{statement}
 use Rattle.due.proofs.within.Tie as tie
-use Rattle.rules.specs.Due.{within}
+use Rattle.due.specs.Due.{within}
 
 returns : tie.Need-returns
 unfolding within

@@ -6,7 +6,7 @@ use lib.IntN.{pos, _-ℤ_}
 use mir.Facts.{toZ-ofZ}
 use mir.Syntax.{w64}
 use mir.Val.{SFits}
-use Rattle.rules.proofs.DueSigns.{apart, diff-law}
+use Rattle.due.proofs.Signs.{apart, diff-law}
 use Rattle.due.proofs.Sizes.{fits}
 use Rattle.times.proofs.text.signed.Statement.{statement}
 use Rattle.times.proofs.text.signed.Tie as tie

@@ -8,11 +8,12 @@ use Prim.Native.Nat.{ℕ}
 use native.Mathlib.Omega.{arith}
 use lib.IntN.{ℤ}
 use lib.Signed.{_<ℤ_}
-use Rattle.rules.specs.Answers.{badTime}
-use Rattle.rules.specs.Due.{Between, GoodTime, GoodKey, Before, goodDay, goodSecond, goodOffset, dayLow, dayHigh, secondLow, secondHigh, keyIs, noKey, timeIs, noTime, keyOr6, timeOr6, keyOf, dayOf, secondOf, toKey, fromKey}
-use Rattle.rules.proofs.DueSigns.{true→yes}
-use Rattle.rules.proofs.DueRanges.{both, both-out, within-yes, within-fact, good-yes, good-fact}
-use Rattle.rules.proofs.DueMoments.{back, there, secondOf-in, moment-later, moment-earlier}
+use Rattle.handle.specs.Numbers.{refusalNumber}
+use Rattle.handle.specs.declared.Refusal.the-variants.{BadTime}
+use Rattle.due.specs.Due.{Between, GoodTime, GoodKey, Before, goodDay, goodSecond, goodOffset, dayLow, dayHigh, secondLow, secondHigh, keyIs, noKey, timeIs, noTime, keyOr6, timeOr6, keyOf, dayOf, secondOf, toKey, fromKey}
+use Rattle.due.proofs.Signs.{true→yes}
+use Rattle.due.proofs.Ranges.{both, both-out, within-yes, within-fact, good-yes, good-fact}
+use Rattle.due.proofs.Moments.{back, there, secondOf-in, moment-later, moment-earlier}
 
 -- ---- the key of a time
 
@@ -20,7 +21,7 @@ key-true : (t : Bool) (k m : ℤ) → keyOr6 t k ≡ keyIs m → (t ≡ true) ×
 key-true true k m e = (refl, cc)
 key-true false k m e = let z : _≡_ {A = ℕ} 0 1 = cc in absurd (omega arith)
 
-key-false : (t : Bool) (k : ℤ) (n : ℕ) → keyOr6 t k ≡ noKey n → (t ≡ false) × (n ≡ badTime)
+key-false : (t : Bool) (k : ℤ) (n : ℕ) → keyOr6 t k ≡ noKey n → (t ≡ false) × (n ≡ refusalNumber BadTime)
 key-false true k n e = let z : _≡_ {A = ℕ} 0 1 = cc in absurd (omega arith)
 key-false false k n e = (refl, cc)
 
@@ -60,7 +61,7 @@ time-true : (t : Bool) (d s d′ s′ : ℤ) → timeOr6 t d s ≡ timeIs d′ s
 time-true true d s d′ s′ e = (refl, cc, cc)
 time-true false d s d′ s′ e = let z : _≡_ {A = ℕ} 0 1 = cc in absurd (omega arith)
 
-time-false : (t : Bool) (d s : ℤ) (n : ℕ) → timeOr6 t d s ≡ noTime n → (t ≡ false) × (n ≡ badTime)
+time-false : (t : Bool) (d s : ℤ) (n : ℕ) → timeOr6 t d s ≡ noTime n → (t ≡ false) × (n ≡ refusalNumber BadTime)
 time-false true d s n e = let z : _≡_ {A = ℕ} 0 1 = cc in absurd (omega arith)
 time-false false d s n e = (refl, cc)
 

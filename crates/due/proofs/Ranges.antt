@@ -1,11 +1,11 @@
--- The tests of ranges and the facts that they decide, for the theorems of DueTimes and the proofs of the crate `due`.
+-- The tests of ranges and the facts that they decide, for the theorems of Times and the proofs of the functions.
 -- A reader needs nothing of it. Assumes nothing.
 use mathlib.Core.Path.{_≡_, refl, sym}
 use mathlib.Core.Bool.{Bool, true, false, _&&_}
 use lib.IntN.{ℤ}
 use lib.Signed.{leZ}
-use Rattle.rules.specs.Due.{within, Between, GoodTime, goodDay, goodSecond, goodOffset}
-use Rattle.rules.proofs.DueSigns.{yes→true, true→yes}
+use Rattle.due.specs.Due.{within, Between, GoodTime, goodDay, goodSecond, goodOffset}
+use Rattle.due.proofs.Signs.{yes→true, true→yes}
 
 -- ---- tests joined by &&
 

@@ -1,13 +1,14 @@
 -- Due times (document 01, "Due times"): a day, a second and an offset become a key, and a key becomes a time again.
 -- A reader may rely on `toKey` and `fromKey`, which say the answer for all numbers, refusals too; their laws are in
--- proofs/DueTimes, and document 01's examples in proofs/DueRuns. The key's formula stands here alone. Assumes nothing.
+-- proofs/Times, and document 01's examples in proofs/Runs. The key's formula stands here alone. Assumes nothing.
 use mathlib.Core.Path.{_≡_}
 use Prim.Native.Nat.{ℕ}
 use mathlib.Core.Bool.{Bool, true, false, _&&_}
 use lib.IntN.{ℤ, pos, negℤ, _+ℤ_, _-ℤ_, _*ℤ_}
 use lib.Signed.{leZ, _≤ℤ_, _<ℤ_}
-use Rattle.rules.specs.DueFloor.{floorDiv, floorMod}
-use Rattle.rules.specs.Answers.{badTime}
+use Rattle.handle.specs.Numbers.{refusalNumber}
+use Rattle.handle.specs.declared.Refusal.the-variants.{BadTime}
+use Rattle.due.specs.Floor.{floorDiv, floorMod}
 
 abbrev pub minus : ℕ → ℤ
 minus n = negℤ (pos n)
@@ -72,11 +73,11 @@ pub data TimeFound : Type 0 where
 
 abbrev pub keyOr6 : Bool → ℤ → KeyFound
 keyOr6 true k = keyIs k
-keyOr6 false k = noKey badTime
+keyOr6 false k = noKey (refusalNumber BadTime)
 
 abbrev pub timeOr6 : Bool → ℤ → ℤ → TimeFound
 timeOr6 true day second = timeIs day second
-timeOr6 false day second = noTime badTime
+timeOr6 false day second = noTime (refusalNumber BadTime)
 
 -- ---- there and back
 

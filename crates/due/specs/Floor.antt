@@ -1,5 +1,5 @@
 -- Division toward the floor, for document 01's "the day is the floor of (key + offset) / 86,400, the second is the
--- remainder". A reader may rely on `Floored`, which says what floor and remainder are; proofs/DueFloors shows that
+-- remainder". A reader may rely on `Floored`, which says what floor and remainder are; proofs/Floors shows that
 -- `floorDiv` and `floorMod` have that property and that nothing else has it. Assumes nothing.
 use mathlib.Core.Path.{_≡_}
 use Prim.Native.Nat.{ℕ, suc, _-_, _/_, _%_, _<_}

@@ -1,10 +1,10 @@
--- Document 01's examples of due times, computed from the definitions: its two lines under "Due times", run K, and the
--- ends of each range with the number one past it. Assumes nothing.
+-- Document 01's examples of due times, computed from the definitions: its two lines under "Due times", of which run K is a part,
+-- and the ends of each range with the number one past it. Assumes nothing.
 use mathlib.Core.Path.{_≡_, refl}
 use mathlib.Core.List.{List, [], _∷_, map}
 use lib.IntN.{ℤ, pos}
-use Rattle.rules.specs.Due.{minus, within, momentOf, dayOf, secondOf, KeyFound, keyIs, noKey, TimeFound, timeIs, noTime, toKey, fromKey}
-use Rattle.rules.specs.DueFloor.{floorDiv, floorMod}
+use Rattle.due.specs.Due.{minus, within, momentOf, dayOf, secondOf, KeyFound, keyIs, noKey, TimeFound, timeIs, noTime, toKey, fromKey}
+use Rattle.due.specs.Floor.{floorDiv, floorMod}
 
 -- "Day -1, second 86,399, offset 0 gives -1, and back the same."
 pub day-before : (toKey (minus 1) (pos 86_399) (pos 0) ≡ keyIs (minus 1)) × (fromKey (minus 1) (pos 0) ≡ timeIs (minus 1) (pos 86_399))
@@ -15,11 +15,6 @@ day-before = (refl, refl)
 pub day-100 : (toKey (pos 100) (pos 7_200) (pos 3_600) ≡ keyIs (pos 8_643_600)) × (toKey (pos 100) (pos 7_200) (pos 7_200) ≡ keyIs (pos 8_640_000))
 unfolding toKey within momentOf
 day-100 = (refl, refl)
-
--- "*K: Key -1 is at day -1, second 86,399."
-pub run-K : fromKey (minus 1) (pos 0) ≡ timeIs (minus 1) (pos 86_399)
-unfolding fromKey within dayOf secondOf floorDiv floorMod
-run-K = refl
 
 -- ---- the ends of the ranges, and one past each
 

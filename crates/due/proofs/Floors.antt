@@ -5,8 +5,8 @@ use Prim.Native.Nat.{ℕ, suc, _+_, _*_, _-_, _/_, _%_, _<_}
 use native.Mathlib.Nat.{div-add-mod', mod-lt, mul-add-div-right, div-eq-of-lt}
 use native.Mathlib.Omega.{arith}
 use lib.IntN.{ℤ, pos, negsuc, _+ℤ_, _*ℤ_}
-use Rattle.rules.specs.DueFloor.{Floored, floorDiv, floorMod}
-use Rattle.rules.proofs.DueSigns.{up, down, equal, sum-law, up-times, down-times}
+use Rattle.due.specs.Floor.{Floored, floorDiv, floorMod}
+use Rattle.due.proofs.Signs.{up, down, equal, sum-law, up-times, down-times}
 
 -- ---- the property in naturals, both ways
 

@@ -1,0 +1,3 @@
+-- Document 01's starred runs, written out by hand.
+pub mod Starred
+pub mod inner
