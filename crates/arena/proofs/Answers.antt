@@ -12,9 +12,11 @@ use Rattle.handle.specs.declared.Handle.{Handle}
 use Rattle.handle.specs.declared.Refusal.the-variants.{BadLayout}
 use Rattle.arena.specs.Keys.{signed}
 use Rattle.handle.specs.Numbers.{limit, topLimit}
+use Rattle.handle.proofs.Limits.{limit-fits}
 use Rattle.arena.specs.Words.{headWords, need, Room, field, put, head, putHead, KEY, RANK, GENERATION, VALUE, STACK, CAPACITY, TOP, HEIGHT}
 use Rattle.arena.specs.Header.{headerOf, Passing, Says}
-use Rattle.arena.specs.Laying.{blankOf, goodLayout, Good, freshHead, laySlots, laid, layOut}
+use Rattle.arena.specs.Laying.{Good}
+use Rattle.arena.specs.inner.Laying.{blankOf, goodLayout, freshHead, laySlots, laid, layOut}
 use Rattle.arena.specs.inner.Slots.{FoundIn, handleOf, foundAt, peekFrom, peekSlot, popped, takeSlot, pushed, freeWith, freeSlot}
 use Rattle.arena.specs.inner.Entries.{isLive, entryOf}
 use Rattle.arena.specs.declared.header.Header.{Header}
@@ -43,7 +45,7 @@ module _ (s : List ℕ) (cap : ℕ) (e : cap ≡ head s CAPACITY) (long : headWo
   header-passes h = rw (← e, le-ltb (length s) headWords long, le-ltb cap 1 some, le-ltb limit cap few, le-ltb (length s) (need cap) h)
 
   pub passing : need cap ≤ length s → Passing s cap
-  passing h = record { capacity = sym e; some = some; few = few; room = h }
+  passing h = record { capacity = sym e; some = some; few = few; room = (h, (let fits = limit-fits in omega arith)) }
 
 module _ (s : List ℕ) (cap : ℕ) where
   pub peek-reads : (x : Taken) (h : ℕ) → h ≡ head s HEIGHT → x ≡ peekFrom s cap h → x ≡ peekSlot s cap
@@ -112,17 +114,20 @@ unfolding goodLayout
 good-yes len cap top t =
     let n = no-refusals _ _ _ _ _ t in
     record {
-      some = ltb-false cap 1 (n .0);
-      few = ltb-false limit cap (n .1);
-      top-some = ltb-false top 1 (n .2);
-      top-few = ltb-false topLimit top (n .3);
+      range = record {
+        capacity-from = ltb-false cap 1 (n .0);
+        capacity-to = ltb-false limit cap (n .1);
+        top-from = ltb-false top 1 (n .2);
+        top-to = ltb-false topLimit top (n .3);
+      };
       room = ltb-false len (need cap) (n .4);
     }
 
 pub good-is : (len cap top : ℕ) → Good len cap top → goodLayout len cap top ≡ true
 unfolding goodLayout
 good-is len cap top g =
-    rw (le-ltb cap 1 (g .some), le-ltb limit cap (g .few), le-ltb top 1 (g .top-some), le-ltb topLimit top (g .top-few), le-ltb len (need cap) (g .room))
+    let r = g .range in
+    rw (le-ltb cap 1 (r .capacity-from), le-ltb limit cap (r .capacity-to), le-ltb top 1 (r .top-from), le-ltb topLimit top (r .top-to), le-ltb len (need cap) (g .room))
 
 module _ (s : List ℕ) (cap top : ℕ) where
   pub lay-done : goodLayout (length s) cap top ≡ true → (t u : List ℕ) → t ≡ freshHead s cap top → u ≡ laySlots cap t cap → _≡_ {A = List ℕ × LaidOut} (u, Done) (layOut s cap top)

@@ -6,8 +6,9 @@ use native.Mathlib.Omega.{arith}
 use native.Mathlib.Decide.{ℕ-discrete}
 use lib.Dec.{lit<}
 use lib.ListN.{length, getD}
-use Rattle.arena.specs.Words.{need, Room, headWords, fields, field, head, putHead}
-use Rattle.arena.specs.Laying.{unlinked, blankOf, freshSlot, laySlots, zeroed, slotWords}
+use Rattle.arena.specs.Words.{need, Long, headWords, fields, field, head, putHead}
+use Rattle.arena.specs.Laying.{slotWords}
+use Rattle.arena.specs.inner.Laying.{unlinked, blankOf, freshSlot, laySlots, zeroed}
 use Rattle.arena.proofs.Laws.{lit≢, length-put, length-putHead, field-at, field-slot, field-off, head-put, rest-put, head-same, head-other, rest-putHead}
 
 -- a statement about each field
@@ -41,7 +42,7 @@ module _ (s : List ℕ) (cap i : ℕ) (hi : i < cap) where
   unfolding freshSlot blankOf unlinked
   fresh-other j g hj hg ne = simp (field-slot, lit<, tt {0})
 
-  module _ (room : Room s cap) where
+  module _ (room : Long s cap) where
     -- the place of one put in the chain of puts: what follows are puts in other fields
     pub fresh-is : (f : ℕ) → f < fields → field (freshSlot s cap i) cap i f ≡ getD (slotWords cap i) f 0
     unfolding freshSlot blankOf unlinked
@@ -66,7 +67,7 @@ pub record Laid (n : ℕ) (s t : List ℕ) (cap : ℕ) : Type 0 where
   pub fresh : (j g : ℕ) → j < cap → g < fields → cap ≤ j + n → field t cap j g ≡ getD (slotWords cap j) g 0
 
 -- one slot more
-more : (n : ℕ) (s t : List ℕ) (cap : ℕ) → suc n ≤ cap → Room s cap → Laid n (freshSlot s cap (cap - suc n)) t cap → Laid (suc n) s t cap
+more : (n : ℕ) (s t : List ℕ) (cap : ℕ) → suc n ≤ cap → Long s cap → Laid n (freshSlot s cap (cap - suc n)) t cap → Laid (suc n) s t cap
 more n s t cap le room R = record {
   long = R .long ∙ length-fresh s cap i hi;
   heads = λ h hh. R .heads h hh ∙ fresh-head s cap i hi h hh;
@@ -87,7 +88,7 @@ more n s t cap le room R = record {
         ∙ subst (λ (x : ℕ). field (freshSlot s cap i) cap x g ≡ getD (slotWords cap x) g 0) (sym e) (fresh-is s cap i hi room g hg)
     at j g hj hg l (no e) = R .fresh j g hj hg (omega arith)
 
-pub lay-slots : (n : ℕ) (s : List ℕ) (cap : ℕ) → n ≤ cap → Room s cap → Laid n s (laySlots n s cap) cap
+pub lay-slots : (n : ℕ) (s : List ℕ) (cap : ℕ) → n ≤ cap → Long s cap → Laid n s (laySlots n s cap) cap
 unfolding laySlots
 lay-slots zero s cap le room = record {
   long = refl;
@@ -107,7 +108,7 @@ pub record Zeroed (n : ℕ) (s t : List ℕ) : Type 0 where
   pub zeros : (h : ℕ) → h < headWords → headWords ≤ h + n → head t h ≡ 0
   pub rest : (k : ℕ) → headWords ≤ k → getD t k 0 ≡ getD s k 0
 
-pub zero-words : (n : ℕ) (s : List ℕ) → n ≤ headWords → Room s 0 → Zeroed n s (zeroed n s)
+pub zero-words : (n : ℕ) (s : List ℕ) → n ≤ headWords → Long s 0 → Zeroed n s (zeroed n s)
 unfolding zeroed
 zero-words zero s le room = record {
   long = refl;
@@ -115,10 +116,10 @@ zero-words zero s le room = record {
   zeros = λ h hh l. absurd (omega arith);
   rest = λ k hk. refl;
 }
-zero-words (suc n) s le room = one (zero-words n (putHead s (16 - suc n) 0) (omega arith) (rw (length-putHead s (16 - suc n) 0) room))
+zero-words (suc n) s le room = one (zero-words n (putHead s (headWords - suc n) 0) (omega arith) (rw (length-putHead s (headWords - suc n) 0) room))
   where
     w : ℕ
-    w = 16 - suc n
+    w = headWords - suc n
 
     hw : w < headWords
     hw = omega arith

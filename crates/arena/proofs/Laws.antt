@@ -8,7 +8,7 @@ use native.Mathlib.Omega.{arith}
 use lib.Dec.{T, eqb, T-not, eqb-refl}
 use lib.ListN.{length, getD, length-set}
 use lib.Seq.{getD-set-same, getD-set-other}
-use Rattle.arena.specs.Words.{need, Room, headWords, fields, place, field, put, head, putHead}
+use Rattle.arena.specs.Words.{need, Long, headWords, fields, place, field, put, head, putHead}
 use Rattle.arena.proofs.Places.{place-within, place-one}
 
 pub length-put : (s : List ℕ) (cap i f v : ℕ) → length (put s cap i f v) ≡ length s
@@ -24,7 +24,7 @@ pub lit≢ : {m n : ℕ} → T (not (eqb m n)) → m ≡ n → ⊥
 lit≢ {m} {n} t e = T-not (eqb m n) t (rw (← e) (eqb-refl m))
 
 module _ (s : List ℕ) (cap i f v : ℕ) (hi : i < cap) (hf : f < fields) where
-  pub field-same : Room s cap → field (put s cap i f v) cap i f ≡ v
+  pub field-same : Long s cap → field (put s cap i f v) cap i f ≡ v
   unfolding put field
   field-same room = let w = place-within cap i f hi hf in getD-set-same s (place cap i f) v 0 (omega arith)
 
@@ -54,7 +54,7 @@ pub field-at : (cap n : ℕ) → need cap ≤ n → (s : List ℕ) (i f v : ℕ)
 field-at cap n room s i f v hi hf e = field-same s cap i f v hi hf (rw e room)
 
 module _ (s : List ℕ) (h v : ℕ) (hh : h < headWords) where
-  pub head-same : Room s 0 → head (putHead s h v) h ≡ v
+  pub head-same : Long s 0 → head (putHead s h v) h ≡ v
   unfolding putHead head
   head-same room = getD-set-same s h v 0 (omega arith)
 

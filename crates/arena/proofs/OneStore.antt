@@ -19,22 +19,22 @@ record Named (cap k : ℕ) : Type 0 where
   is : place cap slot which ≡ k
 
 named : (cap k : ℕ) → headWords ≤ k → k < need cap → Named cap k
-named cap k lo hi = go (decLt k (16 + cap * 4))
+named cap k lo hi = go (decLt k (headWords + cap * 4))
   where
-    go : Dec (k < 16 + cap * 4) → Named cap k
+    go : Dec (k < headWords + cap * 4) → Named cap k
     go (yes h) = record {
-      slot = (k - 16) / 4;
-      which = (k - 16) % 4;
+      slot = (k - headWords) / 4;
+      which = (k - headWords) % 4;
       low = omega arith;
       small = omega arith;
-      is = place-near cap ((k - 16) / 4) ((k - 16) % 4) (omega arith) ∙ omega arith;
+      is = place-near cap ((k - headWords) / 4) ((k - headWords) % 4) (omega arith) ∙ omega arith;
     }
     go (no h) = record {
-      slot = (k - (16 + cap * 4)) / 6;
-      which = 4 + (k - (16 + cap * 4)) % 6;
+      slot = (k - (headWords + cap * 4)) / 6;
+      which = 4 + (k - (headWords + cap * 4)) % 6;
       low = omega arith;
       small = omega arith;
-      is = place-far cap ((k - (16 + cap * 4)) / 6) (4 + (k - (16 + cap * 4)) % 6) (omega arith) ∙ omega arith;
+      is = place-far cap ((k - (headWords + cap * 4)) / 6) (4 + (k - (headWords + cap * 4)) % 6) (omega arith) ∙ omega arith;
     }
 
 pub one-store : (s t : List ℕ) (cap : ℕ) → Agree s t cap → s ≡ t

@@ -10,9 +10,11 @@ use lib.ListN.{length, getD}
 use Rattle.handle.specs.declared.Refusal.the-variants.{BadLayout}
 use Rattle.arena.specs.Branch.{ifte}
 use Rattle.handle.specs.Numbers.{limit}
-use Rattle.arena.specs.Words.{need, Room, headWords, head, CAPACITY}
+use Rattle.handle.proofs.Limits.{limit-fits}
+use Rattle.arena.specs.Words.{need, Long, headWords, head, CAPACITY}
 use Rattle.arena.specs.Header.{headerOf, Passing}
-use Rattle.arena.specs.Laying.{zeroed, freshHead, laid, layOut, goodLayout, Good, headerWords, Fresh}
+use Rattle.arena.specs.Laying.{Good, headerWords, Fresh}
+use Rattle.arena.specs.inner.Laying.{zeroed, freshHead, laid, layOut, goodLayout}
 use Rattle.arena.specs.declared.header.Header.{Header}
 use Rattle.arena.specs.declared.header.Header.the-variants.{Passes, Fails}
 use Rattle.arena.specs.declared.laying.LaidOut.the-variants.{Done, Refused}
@@ -21,9 +23,9 @@ use Rattle.arena.proofs.OneStore.{one-store}
 use Rattle.arena.proofs.FreshStore.{lay-slots, zero-words}
 use Rattle.arena.proofs.Answers.{good-yes, good-is, lay-refused, header-passes}
 
-module _ (s : List ℕ) (cap top : ℕ) (room : Room s 0) where
-  length-zeroed : length (zeroed 16 s) ≡ length s
-  length-zeroed = zero-words 16 s (lit≤ tt) room .long
+module _ (s : List ℕ) (cap top : ℕ) (room : Long s 0) where
+  length-zeroed : length (zeroed headWords s) ≡ length s
+  length-zeroed = zero-words headWords s (lit≤ tt) room .long
 
   pub length-head : length (freshHead s cap top) ≡ length s
   unfolding freshHead
@@ -31,7 +33,7 @@ module _ (s : List ℕ) (cap top : ℕ) (room : Room s 0) where
 
   pub head-rest : (k : ℕ) → headWords ≤ k → getD (freshHead s cap top) k 0 ≡ getD s k 0
   unfolding freshHead
-  head-rest k hk = simp (rest-putHead, lit<, tt {0}) (zero-words 16 s (lit≤ tt) room .rest k hk)
+  head-rest k hk = simp (rest-putHead, lit<, tt {0}) (zero-words headWords s (lit≤ tt) room .rest k hk)
 
   -- the six words in use, and those behind them
   pub head-words : (h : ℕ) → h < headWords → head (freshHead s cap top) h ≡ getD (headerWords cap top) h 0
@@ -49,13 +51,13 @@ module _ (s : List ℕ) (cap top : ℕ) (room : Room s 0) where
       let d : suc (suc (suc (suc (suc (suc n))))) ≡ 3 → ⊥ = λ e. omega arith in
       let e : suc (suc (suc (suc (suc (suc n))))) ≡ 4 → ⊥ = λ e. omega arith in
       let f : suc (suc (suc (suc (suc (suc n))))) ≡ 5 → ⊥ = λ e. omega arith in
-      simp (head-other, lit<, tt {0}) (zero-words 16 s (lit≤ tt) room .zeros _ l (omega arith))
+      simp (head-other, lit<, tt {0}) (zero-words headWords s (lit≤ tt) room .zeros _ l (omega arith))
 
 -- a good layout: every word afterwards
-pub laid-is : (s : List ℕ) (cap top : ℕ) → Room s cap → Fresh s (laid s cap top) cap top
+pub laid-is : (s : List ℕ) (cap top : ℕ) → Long s cap → Fresh s (laid s cap top) cap top
 unfolding laid
 laid-is s cap top room =
-    let bare : Room s 0 = omega arith in
+    let bare : Long s 0 = omega arith in
     let long = length-head s cap top bare in
     let L = lay-slots cap (freshHead s cap top) cap (omega arith) (rw long room) in
     record {
@@ -88,7 +90,7 @@ fresh-one s t u cap top a b = one-store t u cap (record {
 
 -- a header passes exactly when the store is long enough and its capacity lies in 1 to the limit
 pub passes : (s : List ℕ) (cap : ℕ) → Passing s cap → headerOf s ≡ Passes cap
-passes s cap p = sym (header-passes s cap (sym (p .capacity)) (let r = p .room in omega arith) (p .some) (p .few) (p .room))
+passes s cap p = sym (header-passes s cap (sym (p .capacity)) (let r = p .room in omega arith) (p .some) (p .few) (p .room .0))
 
 -- one test of the header's chain
 no-fail : (t : Bool) (b : Header) (cap : ℕ) → ifte t Fails b ≡ Passes cap → (t ≡ false) × (b ≡ Passes cap)
@@ -103,11 +105,13 @@ passing s cap e =
     let c = no-fail (ltb limit (head s CAPACITY)) _ cap (b .1) in
     let d = no-fail (ltb (length s) (need (head s CAPACITY))) _ cap (c .1) in
     let is : head s CAPACITY ≡ cap = same (d .1) in
+    let few : cap ≤ limit = rw is at (ltb-false limit (head s CAPACITY) (c .0)) in
+    let fits = limit-fits in
     record {
       capacity = is;
       some = rw is at (ltb-false (head s CAPACITY) 1 (b .0));
-      few = rw is at (ltb-false limit (head s CAPACITY) (c .0));
-      room = rw is at (ltb-false (length s) (need (head s CAPACITY)) (d .0));
+      few = few;
+      room = (rw is at (ltb-false (length s) (need (head s CAPACITY)) (d .0)), omega arith);
     }
   where
     same : {m n : ℕ} → Passes m ≡ Passes n → m ≡ n

@@ -5,6 +5,7 @@ use Prim.Native.Nat.{ℕ, _+_, _-_, _*_, _≤_}
 use mathlib.Core.List.{List}
 use lib.ListN.{getD, set, length}
 use lib.Dec.{ltb}
+use Rattle.handle.specs.Numbers.{noSlot}
 use Rattle.arena.specs.Branch.{ifte}
 
 -- how many words the header and a slot have
@@ -66,15 +67,19 @@ ROOT = 5
 
 -- how many numbers a capacity needs
 abbrev pub need : ℕ → ℕ
-need cap = 16 + cap * 10
+need cap = headWords + cap * fields
 
--- the store has room for the header and for so many slots
+-- the store is long enough for the header and for so many slots
+abbrev pub Long : List ℕ → ℕ → Type 0
+Long s cap = need cap ≤ length s
+
+-- what every function on slots asks of a store: it is long enough, and no slot has the number for no slot
 abbrev pub Room : List ℕ → ℕ → Type 0
-Room s cap = need cap ≤ length s
+Room s cap = Long s cap × (cap ≤ noSlot)
 
 -- the place of the field f of the slot i: the four that a search reads stand together
 unfoldable pub place : ℕ → ℕ → ℕ → ℕ
-place cap i f = ifte (ltb f 4) (16 + i * 4 + f) (16 + cap * 4 + i * 6 + (f - 4))
+place cap i f = ifte (ltb f 4) (headWords + i * 4 + f) (headWords + cap * 4 + i * 6 + (f - 4))
 
 unfoldable pub field : List ℕ → ℕ → ℕ → ℕ → ℕ
 field s cap i f = getD s (place cap i f) 0

@@ -3,6 +3,9 @@ ghost use mathlib.Core.Path.{_≡_};
 ghost use Rattle.arena.specs.Header.{headerOf, Says};
 use crate::words;
 use crate::words::CAPACITY;
+use crate::words::FIELDS;
+use crate::words::HEAD_WORDS;
+use handle::LIMIT;
 
 // What the header test finds: the capacity of a store whose header passes.
 pub enum Header {
@@ -10,14 +13,11 @@ pub enum Header {
     Fails,
 }
 
-// The most slots that a store may have.
-pub const LIMIT: u64 = 1024;
-
 pub fn test(s: &[u64]) -> Header
     ensures { λ r. ⌜ r ≡ headerOf (now (s .entry)) ⌝ }
     ensures { λ r. ⌜ Says (now (s .entry)) r ⌝ }
 {
-    if s.len() < 16 {
+    if (s.len() as u64) < HEAD_WORDS {
         return Header::Fails;
     }
     let cap = words::head(s, CAPACITY);
@@ -27,7 +27,7 @@ pub fn test(s: &[u64]) -> Header
     if LIMIT < cap {
         return Header::Fails;
     }
-    if (s.len() as u64) < 16 + cap * 10 {
+    if (s.len() as u64) < HEAD_WORDS + cap * FIELDS {
         return Header::Fails;
     }
     Header::Passes(cap)

@@ -2,14 +2,15 @@
 // From the Rust: the making of a new arena, with the capacity and the top generation fixed at once.
 ghost use mathlib.Core.Path.{_≡_};
 ghost use Prim.Native.Nat.{_<_};
-ghost use Rattle.arena.specs.Words.{Room};
-ghost use Rattle.arena.specs.Laying.{unlinked, blankOf, freshSlot, laySlots, zeroed, freshHead, goodLayout, layOut};
-use crate::header::LIMIT;
+ghost use Rattle.arena.specs.Words.{headWords, Long, Room};
+ghost use Rattle.arena.specs.inner.Laying.{unlinked, blankOf, freshSlot, laySlots, zeroed, freshHead, goodLayout, layOut};
 use crate::words;
 use crate::words::BACK;
 use crate::words::CAPACITY;
+use crate::words::FIELDS;
 use crate::words::FIRST;
 use crate::words::GENERATION;
+use crate::words::HEAD_WORDS;
 use crate::words::HEIGHT;
 use crate::words::KEY;
 use crate::words::LAST;
@@ -23,15 +24,14 @@ use crate::words::STACK;
 use crate::words::TOP;
 use crate::words::VALUE;
 use handle::Handle;
+use handle::LIMIT;
 use handle::Refusal;
+use handle::TOP_LIMIT;
 
 pub enum LaidOut {
     Done,
     Refused(Refusal),
 }
-
-// The greatest top generation.
-pub const TOP_LIMIT: u64 = 4294967295;
 
 // The links and the rank of a slot without an entry. BACK holds b.
 fn unlink(s: &mut [u64], cap: u64, i: u64, b: u64)
@@ -82,18 +82,18 @@ fn fresh_slots(s: &mut [u64], cap: u64)
 }
 
 fn zero_header(s: &mut [u64])
-    requires { ⌜ Room (now s) 0 ⌝ }
-    ensures { λ _. ⌜ now (s .exit) ≡ zeroed 16 (now (s .entry)) ⌝ }
+    requires { ⌜ Long (now s) 0 ⌝ }
+    ensures { λ _. ⌜ now (s .exit) ≡ zeroed headWords (now (s .entry)) ⌝ }
 {
     let mut h: u64 = 0;
-    while h < 16 {
+    while h < HEAD_WORDS {
         words::put_head(s, h, 0);
         h += 1;
     }
 }
 
 fn fresh_header(s: &mut [u64], cap: u64, top: u64)
-    requires { ⌜ Room (now s) 0 ⌝ }
+    requires { ⌜ Long (now s) 0 ⌝ }
     ensures { λ _. ⌜ now (s .exit) ≡ freshHead (now (s .entry)) cap top ⌝ }
 {
     zero_header(s);
@@ -121,7 +121,7 @@ fn good_layout(len: u64, capacity: u64, top: u64) -> bool
     if TOP_LIMIT < top {
         return false;
     }
-    if len < 16 + capacity * 10 {
+    if len < HEAD_WORDS + capacity * FIELDS {
         return false;
     }
     true

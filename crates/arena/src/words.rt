@@ -2,7 +2,16 @@
 // Above this module only `field`, `put`, `head` and `put_head` touch a store, and their laws (proofs/Laws.antt) say all that is known of them.
 ghost use mathlib.Core.Path.{_≡_};
 ghost use Prim.Native.Nat.{_<_};
-ghost use Rattle.arena.specs.Words.{Room, field as fieldOf, put as putOf, head as headOf, putHead, fields, headWords};
+ghost use Rattle.arena.specs.Words.{Long, Room, field as fieldOf, put as putOf, head as headOf, putHead, fields, headWords};
+use handle::LIMIT;
+
+// How many words the header has, and how many fields a slot.
+pub const HEAD_WORDS: u64 = 16;
+
+pub const FIELDS: u64 = 10;
+
+// How many words a store of the most slots takes.
+pub const STORE: usize = (HEAD_WORDS + LIMIT * FIELDS) as usize;
 
 // The fields of a slot.
 pub const KEY: u64 = 0;
@@ -46,9 +55,9 @@ pub fn field(s: &[u64], cap: u64, i: u64, f: u64) -> u64
     ensures { λ r. ⌜ r ≡ fieldOf (now (s .entry)) cap i f ⌝ }
 {
     if f < 4 {
-        return s[(16 + i * 4 + f) as usize];
+        return s[(HEAD_WORDS + i * 4 + f) as usize];
     }
-    s[(16 + cap * 4 + i * 6 + (f - 4)) as usize]
+    s[(HEAD_WORDS + cap * 4 + i * 6 + (f - 4)) as usize]
 }
 
 // The field f of the slot i becomes v.
@@ -59,15 +68,15 @@ pub fn put(s: &mut [u64], cap: u64, i: u64, f: u64, v: u64)
     ensures { λ _. ⌜ now (s .exit) ≡ putOf (now (s .entry)) cap i f v ⌝ }
 {
     if f < 4 {
-        s[(16 + i * 4 + f) as usize] = v;
+        s[(HEAD_WORDS + i * 4 + f) as usize] = v;
     } else {
-        s[(16 + cap * 4 + i * 6 + (f - 4)) as usize] = v;
+        s[(HEAD_WORDS + cap * 4 + i * 6 + (f - 4)) as usize] = v;
     }
 }
 
 // What the word h of the header holds.
 pub fn head(s: &[u64], h: u64) -> u64
-    requires { ⌜ Room (now s) 0 ⌝ }
+    requires { ⌜ Long (now s) 0 ⌝ }
     requires { ⌜ h < headWords ⌝ }
     ensures { λ r. ⌜ r ≡ headOf (now (s .entry)) h ⌝ }
 {
@@ -76,7 +85,7 @@ pub fn head(s: &[u64], h: u64) -> u64
 
 // The word h of the header becomes v.
 pub fn put_head(s: &mut [u64], h: u64, v: u64)
-    requires { ⌜ Room (now s) 0 ⌝ }
+    requires { ⌜ Long (now s) 0 ⌝ }
     requires { ⌜ h < headWords ⌝ }
     ensures { λ _. ⌜ now (s .exit) ≡ putHead (now (s .entry)) h v ⌝ }
 {

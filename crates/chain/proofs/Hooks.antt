@@ -5,7 +5,7 @@ use mathlib.Core.List.{List}
 use native.Mathlib.Omega.{arith}
 use native.Mathlib.Decide.{decLt}
 use borrow.Author.Tests.{lt-ltb, le-ltb}
-use Rattle.arena.specs.Words.{Room, headWords, fields, field, put, head, putHead, NEXT, FIRST}
+use Rattle.arena.specs.Words.{Long, headWords, fields, field, put, head, putHead, NEXT, FIRST}
 use Rattle.arena.proofs.Laws.{field-same, head-put, head-same, head-other, field-putHead}
 use Rattle.chain.specs.inner.Kept.{ChainOnly}
 use Rattle.chain.specs.inner.Links.{hooked}
@@ -28,7 +28,7 @@ module _ (s : List ℕ) (cap p q d : ℕ) (hd : d ≤ 1) where
       go (no h) = let h′ : cap ≤ p = omega arith in rw (hooked-none h′) (only-putHead s cap (FIRST + d) q (omega arith) (omega arith))
 
   -- p's neighbour away from d
-  pub hooked-at : Room s cap → p < cap → field (hooked s cap p q d) cap p (NEXT - d) ≡ q
+  pub hooked-at : Long s cap → p < cap → field (hooked s cap p q d) cap p (NEXT - d) ≡ q
   hooked-at room h = rw (hooked-slot h) (field-same s cap p (NEXT - d) q h (omega arith) room)
 
   -- every other place
@@ -40,7 +40,7 @@ module _ (s : List ℕ) (cap p q d : ℕ) (hd : d ≤ 1) where
       go (no h) = let h′ : cap ≤ p = omega arith in rw (hooked-none h′) (field-putHead s (FIRST + d) q (omega arith) cap j f hj hf)
 
   -- the end on side d, where p is no slot
-  pub hooked-end : Room s cap → cap ≤ p → head (hooked s cap p q d) (FIRST + d) ≡ q
+  pub hooked-end : Long s cap → cap ≤ p → head (hooked s cap p q d) (FIRST + d) ≡ q
   hooked-end room h = rw (hooked-none h) (head-same s (FIRST + d) q (omega arith) (omega arith))
 
   pub hooked-head : (h : ℕ) → h < headWords → (h ≡ FIRST + d → ⊥) → head (hooked s cap p q d) h ≡ head s h

@@ -4,7 +4,7 @@ use mathlib.Core.Path.{_≡_, _∙_}
 use mathlib.Core.List.{List}
 use native.Mathlib.Omega.{arith}
 use native.Mathlib.Decide.{ℕ-discrete}
-use Rattle.arena.specs.Words.{Room, headWords, fields, field, put, putHead, PREV, NEXT, FIRST, LAST}
+use Rattle.arena.specs.Words.{Long, headWords, fields, field, put, putHead, PREV, NEXT, FIRST, LAST}
 use Rattle.arena.proofs.Laws.{length-put, length-putHead, field-slot, field-off, head-put, rest-put, head-other, field-putHead, rest-putHead}
 use Rattle.chain.specs.inner.Kept.{ChainOnly}
 
@@ -52,5 +52,5 @@ field-other s cap i f v hi hf j g hj hg ne = go (ℕ-discrete g f)
     go (yes e) = field-slot s cap i f v hi hf j g hj hg (λ k. ne (k, e))
     go (no h) = field-off s cap i f v hi hf j g hj hg h
 
-pub room-put : (s : List ℕ) (cap i f v : ℕ) → Room s cap → Room (put s cap i f v) cap
+pub room-put : (s : List ℕ) (cap i f v : ℕ) → Long s cap → Long (put s cap i f v) cap
 room-put s cap i f v room = omega (arith, length-put s cap i f v)

@@ -5,7 +5,7 @@ use mathlib.Core.Path.{_≡_, _∙_}
 use mathlib.Core.List.{List}
 use native.Mathlib.Omega.{arith}
 use Rattle.handle.specs.Numbers.{noSlot}
-use Rattle.arena.specs.Words.{Room, headWords, fields, field, put, head, putHead, PREV, NEXT, FIRST, LAST}
+use Rattle.arena.specs.Words.{Long, headWords, fields, field, put, head, putHead, PREV, NEXT, FIRST, LAST}
 use Rattle.arena.proofs.Laws.{length-put, length-putHead, field-same, field-slot, field-off, head-put, head-same, head-other, field-putHead}
 use Rattle.chain.specs.inner.Kept.{ChainOnly}
 use Rattle.chain.specs.inner.Links.{hooked, linkAlone, between, linkBeside, joined, neighbours, unlinkSlot}
@@ -53,7 +53,7 @@ module _ (s : List ℕ) (cap i p q d : ℕ) (hi : i < cap) (hp : p < cap) (hd : 
       ∙ head-put _ _ _ _ _ hi (omega arith) h hh
 
   -- i's own neighbours: q on side d, and p on the other
-  pub between-near : Room s cap → (i ≡ p → ⊥) → field (between s cap i p q d) cap i (PREV + d) ≡ q
+  pub between-near : Long s cap → (i ≡ p → ⊥) → field (between s cap i p q d) cap i (PREV + d) ≡ q
   unfolding between
   between-near room ne =
       hooked-field _ _ _ _ _ hd i (PREV + d) hi (omega arith) (λ e. off (e .1))
@@ -64,7 +64,7 @@ module _ (s : List ℕ) (cap i p q d : ℕ) (hi : i < cap) (hp : p < cap) (hd : 
       off : PREV + d ≡ NEXT - d → ⊥
       off e = omega arith
 
-  pub between-far : Room s cap → (i ≡ q → ⊥) → field (between s cap i p q d) cap i (NEXT - d) ≡ p
+  pub between-far : Long s cap → (i ≡ q → ⊥) → field (between s cap i p q d) cap i (NEXT - d) ≡ p
   unfolding between
   between-far room ne =
       hooked-field _ _ _ _ _ hd i (NEXT - d) hi (omega arith) (λ e. ne (e .0))
@@ -75,7 +75,7 @@ module _ (s : List ℕ) (cap i p q d : ℕ) (hi : i < cap) (hp : p < cap) (hd : 
       off e = omega arith
 
   -- p's neighbour on side d, and q's on the other, are i; where q is no slot, i is the end on side d
-  pub between-at : Room s cap → field (between s cap i p q d) cap p (PREV + d) ≡ i
+  pub between-at : Long s cap → field (between s cap i p q d) cap p (PREV + d) ≡ i
   unfolding between
   between-at room =
       hooked-field _ _ _ _ _ hd p (PREV + d) hp (omega arith) (λ e. off (e .1))
@@ -84,11 +84,11 @@ module _ (s : List ℕ) (cap i p q d : ℕ) (hi : i < cap) (hp : p < cap) (hd : 
       off : PREV + d ≡ NEXT - d → ⊥
       off e = omega arith
 
-  pub between-back : Room s cap → q < cap → field (between s cap i p q d) cap q (NEXT - d) ≡ i
+  pub between-back : Long s cap → q < cap → field (between s cap i p q d) cap q (NEXT - d) ≡ i
   unfolding between
   between-back room l = hooked-at _ _ _ _ _ hd (room-put _ _ _ _ _ (room-put _ _ _ _ _ (room-put _ _ _ _ _ room))) l
 
-  pub between-end : Room s cap → cap ≤ q → head (between s cap i p q d) (FIRST + d) ≡ i
+  pub between-end : Long s cap → cap ≤ q → head (between s cap i p q d) (FIRST + d) ≡ i
   unfolding between
   between-end room l = hooked-end _ _ _ _ _ hd (room-put _ _ _ _ _ (room-put _ _ _ _ _ (room-put _ _ _ _ _ room))) l
 
@@ -109,7 +109,7 @@ module _ (s : List ℕ) (cap i : ℕ) (hi : i < cap) where
       ∙ field-slot _ _ _ _ _ hi (omega arith) j f hj hf ne
 
   -- no neighbour on either side, and both ends
-  pub alone-near : Room s cap → (d : ℕ) → d ≤ 1 → field (linkAlone s cap i) cap i (PREV + d) ≡ noSlot
+  pub alone-near : Long s cap → (d : ℕ) → d ≤ 1 → field (linkAlone s cap i) cap i (PREV + d) ≡ noSlot
   unfolding linkAlone
   alone-near room zero hd =
       field-putHead _ _ _ (omega arith) _ i PREV hi (omega arith)
@@ -125,11 +125,11 @@ module _ (s : List ℕ) (cap i : ℕ) (hi : i < cap) where
   lone : List ℕ
   lone = put (put s cap i PREV noSlot) cap i NEXT noSlot
 
-  lone-room : Room s cap → Room lone 0
+  lone-room : Long s cap → Long lone 0
   unfolding lone
   lone-room room = omega (arith, length-put (put s cap i PREV noSlot) cap i NEXT noSlot, length-put s cap i PREV noSlot)
 
-  pub alone-end : Room s cap → (d : ℕ) → d ≤ 1 → head (linkAlone s cap i) (FIRST + d) ≡ i
+  pub alone-end : Long s cap → (d : ℕ) → d ≤ 1 → head (linkAlone s cap i) (FIRST + d) ≡ i
   unfolding linkAlone lone
   alone-end room zero hd = head-other _ _ _ (omega arith) FIRST (λ e. omega arith) ∙ head-same lone FIRST i (omega arith) (lone-room room)
   alone-end room (suc zero) hd = head-same (putHead lone FIRST i) LAST i (omega arith) (omega (arith, length-putHead lone FIRST i, lone-room room))
@@ -142,7 +142,7 @@ unfolding unlinkSlot neighbours
 unlink-is s cap i p q e f = rw (e, f)
 
 module _ (s : List ℕ) (cap p q : ℕ) where
-  room-hooked : Room s cap → Room (hooked s cap p q 0) cap
+  room-hooked : Long s cap → Long (hooked s cap p q 0) cap
   room-hooked room = omega (arith, hooked-only s cap p q 0 (omega arith) .long)
 
   pub joined-only : ChainOnly s (joined s cap p q) cap
@@ -156,22 +156,22 @@ module _ (s : List ℕ) (cap p q : ℕ) where
   joined-field j f hj hf np nq = hooked-field _ _ _ _ 1 (omega arith) j f hj hf nq ∙ hooked-field _ _ _ _ 0 (omega arith) j f hj hf np
 
   -- p's next is q and q's prev is p; where one of them is no slot, the end on its side is the other
-  pub joined-next : Room s cap → p < cap → field (joined s cap p q) cap p NEXT ≡ q
+  pub joined-next : Long s cap → p < cap → field (joined s cap p q) cap p NEXT ≡ q
   unfolding joined
   joined-next room l = hooked-field _ _ _ _ 1 (omega arith) p NEXT l (omega arith) (λ e. off (e .1)) ∙ hooked-at _ _ _ _ 0 (omega arith) room l
     where
       off : NEXT ≡ PREV → ⊥
       off e = omega arith
 
-  pub joined-prev : Room s cap → q < cap → field (joined s cap p q) cap q PREV ≡ p
+  pub joined-prev : Long s cap → q < cap → field (joined s cap p q) cap q PREV ≡ p
   unfolding joined
   joined-prev room l = hooked-at (hooked s cap p q 0) _ _ _ 1 (omega arith) (room-hooked room) l
 
-  pub joined-first : Room s cap → cap ≤ p → head (joined s cap p q) FIRST ≡ q
+  pub joined-first : Long s cap → cap ≤ p → head (joined s cap p q) FIRST ≡ q
   unfolding joined
   joined-first room l = hooked-head _ _ _ _ 1 (omega arith) FIRST (omega arith) (λ e. omega arith) ∙ hooked-end _ _ _ _ 0 (omega arith) room l
 
-  pub joined-last : Room s cap → cap ≤ q → head (joined s cap p q) LAST ≡ p
+  pub joined-last : Long s cap → cap ≤ q → head (joined s cap p q) LAST ≡ p
   unfolding joined
   joined-last room l = hooked-end (hooked s cap p q 0) _ _ _ 1 (omega arith) (room-hooked room) l
 

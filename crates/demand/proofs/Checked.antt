@@ -4,7 +4,8 @@ use mathlib.Core.Path.{_≡_}
 use mathlib.Core.Bool.{Bool, true}
 use mathlib.Core.List.{List}
 use lib.ListN.{length}
-use Rattle.arena.specs.Laying.{Good, layOut}
+use Rattle.arena.specs.Laying.{Good}
+use Rattle.arena.specs.inner.Laying.{layOut}
 use Rattle.wavl.specs.Lists.{All}
 use Rattle.rules.specs.Queue.{Queue}
 use Rattle.rules.specs.Calls.{Call}

@@ -6,7 +6,8 @@ use mathlib.Core.Path.{_≡_, refl, ap}
 use mathlib.Core.List.{List}
 use lib.ListN.{length}
 use Rattle.arena.specs.Keys.{signed}
-use Rattle.arena.specs.Laying.{Good, layOut}
+use Rattle.arena.specs.Laying.{Good}
+use Rattle.arena.specs.inner.Laying.{layOut}
 use Rattle.arena.proofs.KeyLaws.{signed-undone}
 use Rattle.wavl.specs.Lists.{All}
 use Rattle.rules.specs.Queue.{Queue, fresh}

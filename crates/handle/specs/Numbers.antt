@@ -1,5 +1,6 @@
 -- Document 01's numbers, each here and nowhere else: no slot, the first generation, the limits, the refusals.
--- A reader may rely on this: crates `rules` and `arena` name these; the constants of src/lib.rt are proved to be these.
+-- A reader may rely on this: crates `rules` and `arena` name these; the constants of src/lib.rt are proved to be these
+-- where code tests them.
 use Prim.Native.Nat.{ℕ, _≤_}
 use Rattle.handle.specs.declared.Refusal.{Refusal}
 use Rattle.handle.specs.declared.Refusal.the-variants.{NotWithinCapacity, FailedOrdRequirement, InvalidPtr, BadLayout, NotSound, BadTime}

@@ -4,6 +4,12 @@
 ghost use mathlib.Core.Path.{_≡_};
 ghost use Rattle.handle.specs.Numbers.{noSlot, firstGeneration, refusalNumber};
 
+// The most slots that a store may have: `limit` of specs/Numbers.antt. Crate `arena` is proved to test this.
+pub const LIMIT: u64 = 1024;
+
+// The greatest top generation: `topLimit`, likewise.
+pub const TOP_LIMIT: u64 = 4294967295;
+
 // A place for one entry in the store: 0 and up, below the capacity.
 pub struct Slot(pub u64);
 

@@ -8,7 +8,7 @@ use mathlib.Core.List.{List, [], _∷_}
 use native.Mathlib.Omega.{arith}
 use lib.Dec.{lit<}
 use Rattle.handle.specs.Numbers.{noSlot}
-use Rattle.arena.specs.Words.{Room, head, ROOT}
+use Rattle.arena.specs.Words.{Long, head, ROOT}
 use Rattle.tree.specs.inner.Links.{relinked, withChild}
 use Rattle.wavl.specs.Lists.{In}
 use Rattle.wavl.specs.Entry.{slots}
@@ -54,10 +54,10 @@ no-parent : (s : List ℕ) (cap : ℕ) (p : Way) (x y : Tree) → cap ≤ noSlot
 no-parent s cap [] x y few D i l h = let low = slot-low s cap y noSlot l noSlot h in omega arith
 no-parent s cap (step d e r u ∷ p) x y few D i l h = way-apart (step d e r u ∷ p) x D (e .slot) (i (e .slot) h) (inl refl)
 
-module _ (s s₁ : List ℕ) (cap : ℕ) (l : List ℕ) (p : Way) (x y : Tree) (few : cap ≤ noSlot) (room : Room s cap) (D : Distinct (plug x p))
+module _ (s s₁ : List ℕ) (cap : ℕ) (l : List ℕ) (p : Way) (x y : Tree) (few : cap ≤ noSlot) (room : Long s cap) (D : Distinct (plug x p))
     (within : (j : ℕ) → Has j (plug x p) → In j l) (T : TreeWords s cap (plug x p)) (same : inorder y ≡ inorder x)
     (o : Only s s₁ cap (LinkOf (slots (inorder x))) NoHead) (new : Links s₁ cap (parent p) y) where
-  room₁ : Room s₁ cap
+  room₁ : Long s₁ cap
   room₁ = only-room cap (LinkOf (slots (inorder x))) NoHead s s₁ o room
 
   keep : (j : ℕ) → j < cap → HasWay j p → SameLinks s s₁ cap j

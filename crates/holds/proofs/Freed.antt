@@ -8,8 +8,8 @@ use borrow.Author.Tests.{lt-ltb, le-ltb}
 use lib.Dec.{lit<}
 use lib.ListN.{length}
 use Rattle.handle.specs.Numbers.{noSlot}
-use Rattle.arena.specs.Words.{Room, field, put, head, KEY, LEFT, RIGHT, RANK, BACK, PREV, NEXT, GENERATION, VALUE, STACK, TOP, HEIGHT}
-use Rattle.arena.specs.Laying.{unlinked, blankOf}
+use Rattle.arena.specs.Words.{Long, field, put, head, KEY, LEFT, RIGHT, RANK, BACK, PREV, NEXT, GENERATION, VALUE, STACK, TOP, HEIGHT}
+use Rattle.arena.specs.inner.Laying.{unlinked, blankOf}
 use Rattle.arena.specs.inner.Slots.{pushed, freeWith, freeSlot}
 use Rattle.arena.specs.declared.slots.Freed as F
 use Rattle.arena.proofs.Laws.{lit≢, length-put, field-at, field-same, field-off, head-same, field-putHead}
@@ -28,7 +28,7 @@ module _ (s : List ℕ) (cap i b : ℕ) (hi : i < cap) where
   unfolding blankOf unlinked
   length-blank = simp length-put
 
-  pub blank-new : Room s cap → Blank (blankOf s cap i b) cap i b
+  pub blank-new : Long s cap → Blank (blankOf s cap i b) cap i b
   unfolding blankOf unlinked
   blank-new room = record {
     key-is = simp (field-at cap (length s) room, field-off, lit<, lit≢, tt {0});
@@ -67,7 +67,7 @@ module _ (s : List ℕ) (cap i h top g : ℕ) (eh : head s HEIGHT ≡ h) (et : h
   unfolding freeSlot freeWith
   free-last l = rw (eh, et, eg, le-ltb g top l)
 
-pub retire : (s : List ℕ) (cap i top : ℕ) → i < cap → Room s cap → field s cap i GENERATION ≡ top → Retired (blankOf s cap i noSlot) cap top i
+pub retire : (s : List ℕ) (cap i top : ℕ) → i < cap → Long s cap → field s cap i GENERATION ≡ top → Retired (blankOf s cap i noSlot) cap top i
 unfolding blankOf unlinked
 retire s cap i top hi room e = record { blank = blank-new s cap i noSlot hi room; generation-is = simp (field-off, lit<, lit≢, tt {0}) e }
 
@@ -93,7 +93,7 @@ module _ (s : List ℕ) (cap i h g : ℕ) (hi : i < cap) (hh : h < cap) where
       (only-trans cap W H pa pb _ (only-put cap W H pa i GENERATION (g + 1) hi (lit< tt) (w i GENERATION (own refl (lit< tt))))
       (only-trans cap W H pb pc _ (only-put cap W H pb h STACK i hh (lit< tt) (w h STACK (stacked refl refl))) (only-putHead cap W H pc HEIGHT (h + 1) (lit< tt) k)))
 
-  room-pb : Room s cap → Room pb cap
+  room-pb : Long s cap → Long pb cap
   room-pb room = rw (length-put pa cap i GENERATION (g + 1), length-blank s cap i h hi) room
 
   -- a field of i other than STACK, behind the last two writes
@@ -104,7 +104,7 @@ module _ (s : List ℕ) (cap i h g : ℕ) (hi : i < cap) (hh : h < cap) where
   blank-field : (f : ℕ) → f < STACK → ¬ (f ≡ GENERATION) → field (pushed s cap i h g) cap i f ≡ field pa cap i f
   blank-field f l n = own-field f l ∙ field-off pa cap i GENERATION (g + 1) hi (lit< tt) i f hi (omega arith) n
 
-  pushed-at : Room s cap → FreeAt (pushed s cap i h g) cap (handle i (suc g)) h
+  pushed-at : Long s cap → FreeAt (pushed s cap i h g) cap (handle i (suc g)) h
   unfolding pushed
   pushed-at room =
       let b = blank-new s cap i h hi room in
@@ -124,7 +124,7 @@ module _ (s : List ℕ) (cap i h g : ℕ) (hi : i < cap) (hh : h < cap) where
       }
 
 -- "the slot freed last is taken first"
-pub push-first : (s : List ℕ) (cap i g : ℕ) (l : List Handle) → i < cap → Room s cap → length l < cap → All (Under cap) (freeSlots l) → ¬ (In i (freeSlots l))
+pub push-first : (s : List ℕ) (cap i g : ℕ) (l : List Handle) → i < cap → Long s cap → length l < cap → All (Under cap) (freeSlots l) → ¬ (In i (freeSlots l))
     → FreeStack s cap l → FreeStack (pushed s cap i (length l) g) cap (handle i (suc g) ∷ l)
 unfolding pushed
 push-first s cap i g l hi room few low new w =

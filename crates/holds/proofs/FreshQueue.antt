@@ -14,7 +14,8 @@ use Rattle.wavl.specs.Lists.{In}
 use Rattle.wavl.specs.Entry.{slots}
 use Rattle.wavl.specs.Tree.{inorder}
 use Rattle.rules.specs.Queue.{freshFrom, fresh}
-use Rattle.handle.specs.Numbers.{InRange}
+use Rattle.handle.specs.Numbers.{InRange, limit}
+use Rattle.handle.proofs.Limits.{limit-fits}
 use Rattle.rules.specs.Sound.{freeSlots}
 use Rattle.rules.proofs.Kept.{fresh-sound}
 use Rattle.holds.specs.Free.{Blank, FreeWords}
@@ -85,10 +86,12 @@ module _ (s t : List ℕ) (cap top : ℕ) (f : Fresh s t cap top) where
   pub fresh-holds : Good (length s) cap top → Holds t (fresh cap top)
   unfolding fresh inorder slots
   fresh-holds g =
-      let r : InRange cap top = record { capacity-from = g .some; capacity-to = g .few; top-from = g .top-some; top-to = g .top-few } in
+      let r : InRange cap top = g .range in
+      let to : cap ≤ limit = r .capacity-to in
+      let fits = limit-fits in
       holds-of (fresh-sound cap top r) (record {
         header = record {
-          passes = record { capacity = f .heads CAPACITY (lit< tt); some = g .some; few = g .few; room = rw (f .long) (g .room) };
+          passes = record { capacity = f .heads CAPACITY (lit< tt); some = r .capacity-from; few = to; room = (rw (f .long) (g .room), omega arith) };
           top-is = f .heads TOP (lit< tt);
         };
         tree = record { root = f .heads ROOT (lit< tt); links = tt };

@@ -7,7 +7,7 @@ use mathlib.Core.List.{List, [], _∷_, _++_, append-nil}
 use native.Mathlib.Omega.{arith}
 use lib.Dec.{lit<}
 use Rattle.handle.specs.Numbers.{noSlot}
-use Rattle.arena.specs.Words.{Room, fields, field, head, PREV, NEXT, FIRST, LAST}
+use Rattle.arena.specs.Words.{Long, fields, field, head, PREV, NEXT, FIRST, LAST}
 use Rattle.chain.specs.inner.Links.{between, joined, linkAlone}
 use Rattle.chain.proofs.Laws.{between-near, between-far, between-at, between-back, between-end, between-field, between-head, between-heads, alone-field, alone-near, alone-end, joined-field, joined-next, joined-prev, joined-first, joined-last, joined-first-kept, joined-last-kept}
 use Rattle.wavl.specs.Lists.{All, In, Differ, Once}
@@ -43,7 +43,7 @@ pub record Unlinked (s t : List ℕ) (cap a b : ℕ) : Type 0 where
   pub others : (j g : ℕ) → j < cap → g < fields → ¬ ((j ≡ a) × (g ≡ NEXT)) → ¬ ((j ≡ b) × (g ≡ PREV)) → field t cap j g ≡ field s cap j g
 
 -- the writes of crate `chain`
-module _ (s : List ℕ) (cap i p q : ℕ) (room : Room s cap) (hi : i < cap) (hp : p < cap) (np : ¬ (i ≡ p)) (nq : ¬ (i ≡ q)) where
+module _ (s : List ℕ) (cap i p q : ℕ) (room : Long s cap) (hi : i < cap) (hp : p < cap) (np : ¬ (i ≡ p)) (nq : ¬ (i ≡ q)) where
   -- behind p, before q
   pub after-links : Linked s (between s cap i p q 1) cap p i q
   after-links = record {
@@ -72,7 +72,7 @@ module _ (s : List ℕ) (cap i p q : ℕ) (room : Room s cap) (hi : i < cap) (hp
     others = λ j g hj hg n a b. between-field s cap i p q 0 hi hp (omega arith) j g hj hg n b a;
   }
 
-pub alone-links : (s : List ℕ) (cap i : ℕ) → cap ≤ noSlot → Room s cap → i < cap → Linked s (linkAlone s cap i) cap noSlot i noSlot
+pub alone-links : (s : List ℕ) (cap i : ℕ) → cap ≤ noSlot → Long s cap → i < cap → Linked s (linkAlone s cap i) cap noSlot i noSlot
 alone-links s cap i few room hi = record {
   prev-is = alone-near s cap i hi room 0 (omega arith);
   next-is = alone-near s cap i hi room 1 (omega arith);
@@ -85,7 +85,7 @@ alone-links s cap i few room hi = record {
   others = λ j g hj hg n a b. alone-field s cap i hi j g hj hg n;
 }
 
-pub joined-unlinks : (s : List ℕ) (cap a b : ℕ) → Room s cap → Unlinked s (joined s cap a b) cap a b
+pub joined-unlinks : (s : List ℕ) (cap a b : ℕ) → Long s cap → Unlinked s (joined s cap a b) cap a b
 joined-unlinks s cap a b room = record {
   left-next = joined-next s cap a b room;
   left-end = joined-first s cap a b room;

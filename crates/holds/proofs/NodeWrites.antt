@@ -8,7 +8,7 @@ use native.Mathlib.Decide.{decLt}
 use borrow.Author.Tests.{lt-ltb, le-ltb}
 use lib.ListN.{length}
 use lib.Dec.{lit<}
-use Rattle.arena.specs.Words.{Room, fields, field, put, LEFT, RIGHT, RANK, BACK}
+use Rattle.arena.specs.Words.{Long, fields, field, put, LEFT, RIGHT, RANK, BACK}
 use Rattle.arena.proofs.Laws.{length-put, field-same, field-off}
 use Rattle.chain.proofs.Keeps.{room-put}
 use Rattle.tree.specs.inner.Links.{withBack, withNode}
@@ -21,7 +21,7 @@ use Rattle.holds.proofs.Trees.{number-small, opened, closed, Touch, car
 use Rattle.holds.proofs.WayWrites.{touch-put}
 
 -- one word of a node
-module _ (s : List ℕ) (cap d back near i r far : ℕ) (hd : d ≤ 1) (room : Room s cap) (N : Node s cap d back near i r far) (v : ℕ) where
+module _ (s : List ℕ) (cap d back near i r far : ℕ) (hd : d ≤ 1) (room : Long s cap) (N : Node s cap d back near i r far) (v : ℕ) where
   off : (f g : ℕ) → f < fields → g < fields → ¬ (g ≡ f) → field (put s cap i f v) cap i g ≡ field s cap i g
   off f g hf hg n = field-off s cap i f v (N .low) hf i g (N .low) hg n
 
@@ -67,15 +67,15 @@ module _ (s : List ℕ) (cap d i back near far rank : ℕ) (hd : d ≤ 1) (hi : 
   unfolding withNode
   length-node = simp length-put
 
-  pub node-new : Room s cap → Node (withNode s cap d i back near far rank) cap d back near i rank far
+  pub node-new : Long s cap → Node (withNode s cap d i back near far rank) cap d back near i rank far
   unfolding withNode
   node-new room =
       let a = put s cap i BACK back in
       let b = put a cap i (LEFT + d) near in
       let c = put b cap i (RIGHT - d) far in
-      let ra : Room a cap = room-put s cap i BACK back room in
-      let rb : Room b cap = room-put a cap i (LEFT + d) near ra in
-      let rc : Room c cap = room-put b cap i (RIGHT - d) far rb in
+      let ra : Long a cap = room-put s cap i BACK back room in
+      let rb : Long b cap = room-put a cap i (LEFT + d) near ra in
+      let rc : Long c cap = room-put b cap i (RIGHT - d) far rb in
       node-put-rank c cap d back near i _ far hd rc
       (node-put-far b cap d back near i _ _ hd rb
       (node-put-near a cap d back _ i _ _ hd ra
@@ -113,7 +113,7 @@ module _ (s : List ℕ) (cap i b : ℕ) where
       go (no l) = let l′ : cap ≤ i = omega arith in rw (back-none l′) (λ j lj n g k. refl)
 
 -- the top of a tree has a new back link
-pub new-back : (s : List ℕ) (cap back c : ℕ) (x : Tree) → Room s cap → Distinct x → Links s cap back x → Links (withBack s cap (topSlot x) c) cap c x
+pub new-back : (s : List ℕ) (cap back c : ℕ) (x : Tree) → Long s cap → Distinct x → Links s cap back x → Links (withBack s cap (topSlot x) c) cap c x
 new-back s cap back c tip room D l = tt
 new-back s cap back c (fork a e r b) room D l =
     let p = apart a e r b left D in
@@ -125,7 +125,7 @@ new-back s cap back c (fork a e r b) room D l =
     )
 
 -- the top of a tree has a new rank
-pub new-rank : (s : List ℕ) (cap back : ℕ) (d : Side) (a : Tree) (e : Entry) (r : ℕ) (b : Tree) (v : ℕ) → Room s cap → Distinct (node d a e r b)
+pub new-rank : (s : List ℕ) (cap back : ℕ) (d : Side) (a : Tree) (e : Entry) (r : ℕ) (b : Tree) (v : ℕ) → Long s cap → Distinct (node d a e r b)
     → Links s cap back (node d a e r b) → Links (put s cap (e .slot) RANK v) cap back (node d a e v b)
 new-rank s cap back d a e r b v room D l =
     let p = apart a e r b d D in

@@ -7,7 +7,7 @@ use native.Mathlib.Omega.{arith}
 use lib.ListN.{length, length-append}
 use Rattle.handle.specs.Numbers.{noSlot, limit}
 use Rattle.handle.proofs.Limits.{limit-fits}
-use Rattle.arena.specs.Words.{Room}
+use Rattle.arena.specs.Words.{Long}
 use Rattle.wavl.specs.Lists.{All, In, Differ, Once}
 use Rattle.wavl.specs.Entry.{slots}
 use Rattle.wavl.specs.Tree.{size}
@@ -65,10 +65,10 @@ holds-of d w = record {
 
 -- what a capacity is never above, and the room for it
 pub few-slots : {s : List ℕ} {q : Queue} → Words s q → q .capacity ≤ noSlot
-few-slots w = let h : _ ≤ limit = w .header .passes .few in let l = limit-fits in omega arith
+few-slots w = w .header .passes .room .1
 
-pub room-of : {s : List ℕ} {q : Queue} → Words s q → Room s (q .capacity)
-room-of w = w .header .passes .room
+pub room-of : {s : List ℕ} {q : Queue} → Words s q → Long s (q .capacity)
+room-of w = w .header .passes .room .0
 
 -- rule 5 as far as it speaks of the queue: it holds between the steps of a call too, where ranks may not
 pub record Separate (q : Queue) : Type 0 where

@@ -10,7 +10,7 @@ use borrow.Author.Tests.{le-ltb, lt-leb}
 use lib.Dec.{lit<}
 use lib.ListN.{length}
 use Rattle.handle.specs.Numbers.{noSlot}
-use Rattle.arena.specs.Words.{Room, field, put, STACK, HEIGHT}
+use Rattle.arena.specs.Words.{Long, field, put, STACK, HEIGHT}
 use Rattle.arena.specs.inner.Slots.{handleOf, foundAt, peekFrom, peekSlot, popped, takeSlot}
 use Rattle.arena.specs.declared.slots.Taken as T
 use Rattle.arena.proofs.Laws.{length-put, field-same, head-same, field-putHead}
@@ -55,7 +55,7 @@ abbrev pub IsHeight : ℕ → Type 0
 IsHeight h = h ≡ HEIGHT
 
 -- the rest of the list, after its first handle is taken
-pub pop-rest : (s : List ℕ) (cap : ℕ) (h : Handle) (l : List Handle) → Room s cap → suc (length l) ≤ cap → All (Under cap) (freeSlots l)
+pub pop-rest : (s : List ℕ) (cap : ℕ) (h : Handle) (l : List Handle) → Long s cap → suc (length l) ≤ cap → All (Under cap) (freeSlots l)
     → FreeStack s cap (h ∷ l) → FreeStack (popped s cap (length l)) cap l
 unfolding popped
 pop-rest s cap h l room few low w =

@@ -6,7 +6,7 @@ use mathlib.Core.Path.{_≡_, refl, sym}
 use mathlib.Core.List.{List}
 use native.Mathlib.Omega.{arith}
 use Rattle.handle.specs.Numbers.{noSlot}
-use Rattle.arena.specs.Words.{Room, LEFT, BACK}
+use Rattle.arena.specs.Words.{Long, LEFT, BACK}
 use Rattle.tree.specs.inner.Links.{withBack, withNode}
 use Rattle.wavl.specs.Entry.{Entry}
 use Rattle.wavl.specs.Tree.{Side, left, Tree, tip, fork, node}
@@ -30,7 +30,7 @@ top-has cap tip few l = absurd (omega arith)
 top-has cap (fork a e r b) few l = has-top a e r b left (e .slot) refl
 
 -- "a rises to n1's old rank, n1 and s0 get a's old rank"; "n0 takes n2's place with n1's rank, and n1 and n2 get n0's old rank"
-module _ (s : List ℕ) (cap back : ℕ) (d : Side) (u c e v : Tree) (y x z : Entry) (r k : ℕ) (few : cap ≤ noSlot) (room : Room s cap) where
+module _ (s : List ℕ) (cap back : ℕ) (d : Side) (u c e v : Tree) (y x z : Entry) (r k : ℕ) (few : cap ≤ noSlot) (room : Long s cap) where
   abbrev sa : List ℕ
   sa = withBack s cap (topSlot c) (y .slot)
 
@@ -76,16 +76,16 @@ module _ (s : List ℕ) (cap back : ℕ) (d : Side) (u c e v : Tree) (y x z : En
     G : Apart e (z .slot) v
     G = apart e z r v d (A .in-far)
 
-    room-a : Room sa cap
+    room-a : Long sa cap
     room-a = rw (length-back s cap (topSlot c) (y .slot)) room
 
-    room-b : Room sb cap
+    room-b : Long sb cap
     room-b = rw (length-back sa cap (topSlot e) (z .slot)) room-a
 
-    room-c : Room sc cap
+    room-c : Long sc cap
     room-c = rw (length-node sb cap (number d) (y .slot) (x .slot) (topSlot u) (topSlot c) r m ly) room-b
 
-    room-d : Room sd cap
+    room-d : Long sd cap
     room-d = rw (length-node sc cap (number d) (z .slot) (x .slot) (topSlot e) (topSlot v) r m lz) room-c
 
     touch-d : Touch sc sd cap (z .slot)

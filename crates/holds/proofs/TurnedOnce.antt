@@ -6,7 +6,7 @@ use mathlib.Core.List.{List}
 use native.Mathlib.Omega.{arith}
 use lib.Dec.{lit<}
 use Rattle.handle.specs.Numbers.{noSlot}
-use Rattle.arena.specs.Words.{Room, put, LEFT, RIGHT, BACK}
+use Rattle.arena.specs.Words.{Long, put, LEFT, RIGHT, BACK}
 use Rattle.tree.specs.inner.Links.{withBack, withNode}
 use Rattle.chain.proofs.Keeps.{room-put}
 use Rattle.wavl.specs.Entry.{Entry}
@@ -23,7 +23,7 @@ use Rattle.holds.proofs.NodeWrites.{node-put-back, node-put-far, node-n
 use Rattle.holds.proofs.Turned.{top-off, top-has}
 
 -- "rotate s0 up to n1's old rank, and n1 to a's rank plus 1": y below x, with u and c; v on x's other side
-module _ (s : List ℕ) (cap back : ℕ) (d : Side) (u c v : Tree) (y x : Entry) (r k : ℕ) (few : cap ≤ noSlot) (room : Room s cap) where
+module _ (s : List ℕ) (cap back : ℕ) (d : Side) (u c v : Tree) (y x : Entry) (r k : ℕ) (few : cap ≤ noSlot) (room : Long s cap) where
   abbrev ra : List ℕ
   ra = withBack s cap (topSlot c) (y .slot)
 
@@ -56,10 +56,10 @@ module _ (s : List ℕ) (cap back : ℕ) (d : Side) (u c v : Tree) (y x : Entry)
     B : Apart u (y .slot) c
     B = apart u y r c d (A .in-near)
 
-    room-a : Room ra cap
+    room-a : Long ra cap
     room-a = rw (length-back s cap (topSlot c) (y .slot)) room
 
-    room-b : Room rb cap
+    room-b : Long rb cap
     room-b = rw (length-node ra cap (number d) (y .slot) (x .slot) (topSlot u) (topSlot c) r m ly) room-a
 
     touch-b : Touch ra rb cap (y .slot)
@@ -89,7 +89,7 @@ module _ (s : List ℕ) (cap back : ℕ) (d : Side) (u c v : Tree) (y x : Entry)
         closed rolled cap d back (node d u y r c) x k v (rw (top-node d u y r c) nx) (closed rolled cap d (x .slot) u y r c ny lu lc) lv
 
 -- "n1 takes n2's place and n2 gets n0's rank": x keeps u and its rank k, and gets y on the other side, with c and v
-module _ (s : List ℕ) (cap back : ℕ) (d : Side) (u c v : Tree) (x y : Entry) (k r : ℕ) (few : cap ≤ noSlot) (room : Room s cap) where
+module _ (s : List ℕ) (cap back : ℕ) (d : Side) (u c v : Tree) (x y : Entry) (k r : ℕ) (few : cap ≤ noSlot) (room : Long s cap) where
   abbrev la : List ℕ
   la = withBack s cap (topSlot c) (y .slot)
 
@@ -130,13 +130,13 @@ module _ (s : List ℕ) (cap back : ℕ) (d : Side) (u c v : Tree) (x y : Entry)
     BB : Apart c (y .slot) v
     BB = apart c y r v d (AA .in-far)
 
-    room-la : Room la cap
+    room-la : Long la cap
     room-la = rw (length-back s cap (topSlot c) (y .slot)) room
 
-    room-lb : Room lb cap
+    room-lb : Long lb cap
     room-lb = room-put la cap (x .slot) (RIGHT - number d) (y .slot) room-la
 
-    room-lc : Room lc cap
+    room-lc : Long lc cap
     room-lc = room-put lb cap (x .slot) BACK back room-lb
 
     touch-la : Touch s la cap (topSlot c)

@@ -7,7 +7,7 @@ use mathlib.Core.List.{List, [], _∷_}
 use native.Mathlib.Omega.{arith}
 use borrow.Author.Tests.{lt-ltb, le-ltb, eq-eqb, ne-eqb}
 use Rattle.handle.specs.Numbers.{noSlot}
-use Rattle.arena.specs.Words.{Room, fields, put, head, putHead, LEFT, RIGHT, RANK, BACK, ROOT}
+use Rattle.arena.specs.Words.{Long, fields, put, head, putHead, LEFT, RIGHT, RANK, BACK, ROOT}
 use Rattle.arena.proofs.Laws.{field-same, field-off, field-slot, head-put, head-same, field-putHead}
 use Rattle.tree.specs.inner.Links.{sideOf, withChild, relinked}
 use Rattle.wavl.specs.Tree.{left, right, Tree, node}
@@ -58,7 +58,7 @@ module _ (s : List ℕ) (cap : ℕ) where
 
   -- the hook comes to hold c; the way stays, and each tree without the parent
   module _ (few : cap ≤ noSlot) (c : ℕ) where
-    pub hook-new : (p : Way) → Room s cap → LinksWay s cap p → Hook (withChild s cap (parent p) (sideIn p) c) cap p c
+    pub hook-new : (p : Way) → Long s cap → LinksWay s cap p → Hook (withChild s cap (parent p) (sideIn p) c) cap p c
     hook-new [] room w = rw (child-root noSlot 0 c few) (head-same s ROOT c (omega arith) (omega arith))
     hook-new (step d e r u ∷ p) room w =
         let m = number-small d in
@@ -120,7 +120,7 @@ relinked-is s cap (step left e r u ∷ p) old new few w h o = rw (w .0 .far-is, 
 relinked-is s cap (step right e r u ∷ p) old new few w h o = rw (h, eq-eqb old old refl)
 
 -- x hung at the place in s; in s₁ the way is as it was, and y's links are there, below the same parent
-module _ (s s₁ : List ℕ) (cap : ℕ) (p : Way) (x y : Tree) (few : cap ≤ noSlot) (room : Room s₁ cap) (D : Distinct (plug x p)) (T : TreeWords s cap (plug x p))
+module _ (s s₁ : List ℕ) (cap : ℕ) (p : Way) (x y : Tree) (few : cap ≤ noSlot) (room : Long s₁ cap) (D : Distinct (plug x p)) (T : TreeWords s cap (plug x p))
     (keep : (j : ℕ) → j < cap → HasWay j p → SameLinks s s₁ cap j) (root : head s₁ ROOT ≡ head s ROOT) (new : Links s₁ cap (parent p) y) where
   P : Parted s cap x p
   P = unplugged s cap p x T

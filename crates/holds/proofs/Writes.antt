@@ -6,7 +6,7 @@ use mathlib.Core.List.{List}
 use native.Mathlib.Omega.{arith}
 use native.Mathlib.Decide.{decLt}
 use borrow.Author.Tests.{lt-ltb, le-ltb}
-use Rattle.arena.specs.Words.{Room, headWords, fields, put, putHead, LEFT, RIGHT, RANK, BACK, ROOT}
+use Rattle.arena.specs.Words.{Long, headWords, fields, put, putHead, LEFT, RIGHT, RANK, BACK, ROOT}
 use Rattle.arena.proofs.Laws.{length-put, length-putHead, head-put, rest-put, head-other, field-putHead, rest-putHead}
 use Rattle.tree.specs.inner.Links.{withBack, withChild, withNode}
 use Rattle.chain.proofs.Keeps.{field-other}
@@ -24,7 +24,7 @@ module _ (cap : ℕ) (W : ℕ → ℕ → Type 0) (H : ℕ → Type 0) where
     rest = λ k hk. b .rest k hk ∙ a .rest k hk;
   }
 
-  pub only-room : (s t : List ℕ) → Only s t cap W H → Room s cap → Room t cap
+  pub only-room : (s t : List ℕ) → Only s t cap W H → Long s cap → Long t cap
   only-room s t o room = rw (o .long) room
 
   pub only-put : (s : List ℕ) (i f v : ℕ) → i < cap → f < fields → W i f → Only s (put s cap i f v) cap W H

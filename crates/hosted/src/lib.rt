@@ -4,7 +4,7 @@ mod telling;
 
 ghost use mathlib.Core.Path.{_≡_};
 ghost use Rattle.sound.specs.Decides.{Decides};
-ghost use Rattle.arena.specs.Laying.{layOut};
+ghost use Rattle.arena.specs.inner.Laying.{layOut};
 ghost use Rattle.arena.specs.inner.Slots.{handleOf};
 ghost use Rattle.queue.specs.inner.Placing.{insertCall, emptyCall, manualCall, aheadCall, aheadEmptyCall, aheadManualCall};
 ghost use Rattle.queue.specs.inner.Taking.{removeCall};

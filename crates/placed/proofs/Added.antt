@@ -123,7 +123,7 @@ module _ {s : List ℕ} {q : Queue} (dq : Sound q) (w : Words s q) (key : ℤ) (
         let q₁ = hungQueue q x way rest in
         let stands : Stands u cap (slots (entries q₁)) (plug (leaf x) way) =
         record { words = y .tree; apart = pairwise-left Differ (slots (entries q₁)) (freeSlots rest) (sep way e d .apart); within = λ j z. z } in
-        let z = rebalances cap (slots (entries q₁)) (few way e d) u x c e1 r1 s0 p (y .header .passes .room) stands (rw e (ranked→ranks (q .tree) (dq .ranked))) (rw e (size-few dq)) in
+        let z = rebalances cap (slots (entries q₁)) (few way e d) u x c e1 r1 s0 p (y .header .passes .room .0) stands (rw e (ranked→ranks (q .tree) (dq .ranked))) (rw e (size-few dq)) in
         let v = reshaped (insertAt x way) (sep way e d) y (z .only) (insertAt-same x way) (z .words) in
         rw (taken way e d, z .yes) (record { answer = refl; words = v })
 

@@ -5,7 +5,7 @@ use mathlib.Core.Path.{_≡_, refl, sym, ap, _∙_}
 use mathlib.Core.Logic.{inl}
 use mathlib.Core.List.{List, [], _∷_, _++_, append-assoc}
 use Rattle.handle.specs.Numbers.{noSlot}
-use Rattle.arena.specs.Words.{Room, field, PREV}
+use Rattle.arena.specs.Words.{Long, field, PREV}
 use Rattle.chain.specs.inner.Links.{linkBeside}
 use Rattle.chain.specs.inner.Kept.{ChainOnly}
 use Rattle.chain.proofs.Laws.{beside-is, between-only}
@@ -40,7 +40,7 @@ link-at s cap right e1 r1 s0 p c =
     let z : Chain s cap noSlot (l ++ (e1 ∷ after p)) = simp append-assoc (simp append-assoc at (c .chain)) in
     chain-at s cap l e1 (after p) noSlot z .next-is
 
-module _ (s : List ℕ) (cap i : ℕ) (few : cap ≤ noSlot) (room : Room s cap) (hi : i < cap) where
+module _ (s : List ℕ) (cap i : ℕ) (few : cap ≤ noSlot) (room : Long s cap) (hi : i < cap) where
   pub beside-links : (d : Side) (e1 : Entry) (r1 : ℕ) (s0 : Tree) (p : Way) → e1 .slot < cap
       → ¬ (In i (slots (before (step d e1 r1 s0 ∷ p)))) → ¬ (In i (slots (after (step d e1 r1 s0 ∷ p))))
       → ChainWords s cap (before (step d e1 r1 s0 ∷ p) ++ after (step d e1 r1 s0 ∷ p))

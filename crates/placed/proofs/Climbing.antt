@@ -8,7 +8,7 @@ use native.Mathlib.Decide.{decLt, ℕ-discrete}
 use native.Mathlib.Omega.{arith}
 use lib.ListN.{length}
 use Rattle.handle.specs.Numbers.{noSlot}
-use Rattle.arena.specs.Words.{Room, put, RANK}
+use Rattle.arena.specs.Words.{Long, put, RANK}
 use Rattle.arena.proofs.Laws.{length-put}
 use Rattle.tree.specs.inner.Links.{sideOf}
 use Rattle.tree.specs.declared.Climbed.the-variants.{Done, Up}
@@ -50,7 +50,7 @@ way-rises (step d e r u ∷ p) t w = let i = way-rises p (node d t e r u) (w .2)
 
 -- what one turn is about: n0 under n1 under n2, which hangs at the place p
 module _ (cap : ℕ) (l : List ℕ) (few : cap ≤ noSlot) (fuel : ℕ) (s : List ℕ) (n0 : Tree) (d : Side) (e1 : Entry) (r1 : ℕ) (s0 : Tree)
-    (e : Side) (e2 : Entry) (r2 : ℕ) (s1 : Tree) (p : Way) (f : IsFork n0) (room : Room s cap) (T : Stands s cap l (plug (node e (node d n0 e1 r1 s0) e2 r2 s1) p)) where
+    (e : Side) (e2 : Entry) (r2 : ℕ) (s1 : Tree) (p : Way) (f : IsFork n0) (room : Long s cap) (T : Stands s cap l (plug (node e (node d n0 e1 r1 s0) e2 r2 s1) p)) where
   abbrev goal : Tree
   goal = insertClimb n0 d e1 r1 s0 (step e e2 r2 s1 ∷ p)
 
@@ -99,7 +99,7 @@ module _ (cap : ℕ) (l : List ℕ) (few : cap ≤ noSlot) (fuel : ℕ) (s : Lis
 
 module _ (cap : ℕ) (l : List ℕ) (few : cap ≤ noSlot) where
   pub climbs : (fuel : ℕ) (s : List ℕ) (n0 : Tree) (d : Side) (e1 : Entry) (r1 : ℕ) (s0 : Tree) (e : Side) (e2 : Entry) (r2 : ℕ) (s1 : Tree) (p : Way)
-      → IsFork n0 → Room s cap → Stands s cap l (plug (node e (node d n0 e1 r1 s0) e2 r2 s1) p) → r1 ≡ suc (rank n0) → WayRanks (rank n0) (step e e2 r2 s1 ∷ p)
+      → IsFork n0 → Long s cap → Stands s cap l (plug (node e (node d n0 e1 r1 s0) e2 r2 s1) p) → r1 ≡ suc (rank n0) → WayRanks (rank n0) (step e e2 r2 s1 ∷ p)
       → rank n0 + length p < 32 → length p < fuel
       → Came s cap l (insertClimb n0 d e1 r1 s0 (step e e2 r2 s1 ∷ p)) (climbFrom fuel s cap (topSlot n0) (e1 .slot) (e2 .slot) (number d) (number e))
   unfolding plug insertClimb
@@ -118,7 +118,7 @@ module _ (cap : ℕ) (l : List ℕ) (few : cap ≤ noSlot) where
       t = put s cap (e2 .slot) RANK (r1 + 1)
 
       go : Dec (r1 < r2) → Dec (rank s1 + 1 ≡ r2)
-          → (Room t cap → Stands t cap l (plug (node c (node e (node d n0 e1 r1 s0) e2 (r1 + 1) s1) e3 r3 s2) p) → r1 + 1 ≡ suc r1 → WayRanks r1 (step c e3 r3 s2 ∷ p)
+          → (Long t cap → Stands t cap l (plug (node c (node e (node d n0 e1 r1 s0) e2 (r1 + 1) s1) e3 r3 s2) p) → r1 + 1 ≡ suc r1 → WayRanks r1 (step c e3 r3 s2 ∷ p)
           → r1 + length p < 32 → length p < fuel
           → Came t cap l (insertClimb (node d n0 e1 r1 s0) e e2 (r1 + 1) s1 (step c e3 r3 s2 ∷ p)) (climbFrom fuel t cap (topSlot (node d n0 e1 r1 s0)) (e2 .slot) (e3 .slot) (number e) (number c)))
           → Came s cap l (insertClimb n0 d e1 r1 s0 (step e e2 r2 s1 ∷ (step c e3 r3 s2 ∷ p))) (climbFrom (suc fuel) s cap (topSlot n0) (e1 .slot) (e2 .slot) (number d) (number e))

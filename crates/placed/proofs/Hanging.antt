@@ -8,7 +8,7 @@ use native.Mathlib.Decide.{ℕ-discrete}
 use native.Mathlib.Omega.{arith}
 use lib.Dec.{lit<}
 use Rattle.handle.specs.Numbers.{noSlot}
-use Rattle.arena.specs.Words.{Room, fields, field, put, KEY, LEFT, BACK, PREV, NEXT, GENERATION, VALUE, STACK, FIRST, LAST, ROOT}
+use Rattle.arena.specs.Words.{Long, fields, field, put, KEY, LEFT, BACK, PREV, NEXT, GENERATION, VALUE, STACK, FIRST, LAST, ROOT}
 use Rattle.arena.proofs.Laws.{length-put, field-same, field-off}
 use Rattle.tree.specs.inner.Links.{withChild, withNode}
 use Rattle.chain.specs.inner.Kept.{ChainOnly}
@@ -38,14 +38,14 @@ module _ (s : List ℕ) (cap i k v back : ℕ) (hi : i < cap) where
       (only-trans cap (OwnOf i) NoHead a b _ (only-put cap (OwnOf i) NoHead a i VALUE v hi (lit< tt) (refl, lit< tt, λ e. omega arith))
       (only-node cap (OwnOf i) NoHead b 0 i back noSlot noSlot 1 (omega arith) hi (λ g lo up. (refl, omega arith, λ e. omega arith))))
 
-  pub leaf-key : Room s cap → field (leafed s cap i k v back) cap i KEY ≡ k
+  pub leaf-key : Long s cap → field (leafed s cap i k v back) cap i KEY ≡ k
   leaf-key room =
       let a = put s cap i KEY k in
       let b = put a cap i VALUE v in
       only-node cap (λ j g. LEFT ≤ g) NoHead b 0 i back noSlot noSlot 1 (omega arith) hi (λ g lo up. lo) .slots i KEY hi (lit< tt) (λ z. omega arith)
       ∙ field-off a cap i VALUE v hi (lit< tt) i KEY hi (lit< tt) (λ e. omega arith) ∙ field-same s cap i KEY k hi (lit< tt) room
 
-  pub leaf-value : Room s cap → field (leafed s cap i k v back) cap i VALUE ≡ v
+  pub leaf-value : Long s cap → field (leafed s cap i k v back) cap i VALUE ≡ v
   leaf-value room =
       let a = put s cap i KEY k in
       let b = put a cap i VALUE v in

@@ -9,7 +9,7 @@ use lib.Dec.{lit<}
 use lib.ListN.{length}
 use Rattle.handle.specs.Numbers.{noSlot}
 use Rattle.arena.proofs.Laws.{length-put}
-use Rattle.arena.specs.Words.{Room, field, put, KEY, LEFT, BACK, NEXT, GENERATION, VALUE, STACK, ROOT}
+use Rattle.arena.specs.Words.{Long, field, put, KEY, LEFT, BACK, NEXT, GENERATION, VALUE, STACK, ROOT}
 use Rattle.arena.specs.inner.Slots.{popped}
 use Rattle.tree.specs.inner.Links.{withChild}
 use Rattle.chain.specs.inner.Kept.{ChainOnly}
@@ -107,13 +107,13 @@ module _ {s : List ℕ} {q : Queue} (dq : Separate q) (w : Words s q) (h : Handl
   taken-only : Only s takenStore cap (PlaceOf (length rest)) IsHeight
   taken-only = popped-only s cap (length rest) (PlaceOf (length rest)) IsHeight places (refl, refl) refl
 
-  room-a : Room takenStore cap
+  room-a : Long takenStore cap
   room-a = rw (taken-only .long) (room-of w)
 
   leaf-writes : Only takenStore leafStore cap (OwnOf i) NoHead
   leaf-writes = leaf-only takenStore cap i k v (parent p) low
 
-  pub leaf-room : Room leafStore cap
+  pub leaf-room : Long leafStore cap
   leaf-room = rw (leaf-writes .long) room-a
 
   -- the chain before the new entry stands in it
@@ -255,7 +255,7 @@ module _ {s : List ℕ} {q : Queue} (dq : Separate q) (w : Words s q) (h : Handl
     leaf-links =
         let a = put takenStore cap i KEY k in
         let b = put a cap i VALUE v in
-        let rb : Room b cap = rw (length-put a cap i VALUE v, length-put takenStore cap i KEY k) room-a in (
+        let rb : Long b cap = rw (length-put a cap i VALUE v, length-put takenStore cap i KEY k) room-a in (
           node-keep leafStore t cap 0 (parent p) noSlot i 1 noSlot (omega arith) (λ g f. chain-writes .slots i g low (omega arith) (λ y. omega arith))
               (node-new b cap 0 i (parent p) noSlot noSlot 1 (omega arith) low rb),
           tt,

@@ -7,7 +7,7 @@ use native.Mathlib.Decide.{ℕ-discrete}
 use native.Mathlib.Omega.{arith}
 use lib.ListN.{length}
 use Rattle.handle.specs.Numbers.{noSlot}
-use Rattle.arena.specs.Words.{Room, field, put, RANK}
+use Rattle.arena.specs.Words.{Long, field, put, RANK}
 use Rattle.arena.proofs.Laws.{length-put}
 use Rattle.rebalance.specs.inner.Ranks.{budget, climbedAbove, rebalanced}
 use Rattle.rebalance.proofs.Fixes.{top-reached, rank-fits, rank-raised, climbs as climb-starts}
@@ -33,7 +33,7 @@ use Rattle.placed.proofs.Climbing.{way-rises, climbs}
 
 module _ (cap : ℕ) (l : List ℕ) (few : cap ≤ noSlot) where
   -- n1 has the rank 2 now: the climb above it
-  climb-above : (s : List ℕ) (e : Entry) (d : Side) (e1 : Entry) (s0 : Tree) (p : Way) → Room s cap → Stands s cap l (plug (node d (leaf e) e1 2 s0) p)
+  climb-above : (s : List ℕ) (e : Entry) (d : Side) (e1 : Entry) (s0 : Tree) (p : Way) → Long s cap → Stands s cap l (plug (node d (leaf e) e1 2 s0) p)
       → WayRanks 1 p → length p ≤ 31 → Came s cap l (insertClimb (leaf e) d e1 2 s0 p) (climbedAbove s cap (e .slot) (e1 .slot))
   unfolding plug
   climb-above s e d e1 s0 [] room T w b =
@@ -53,7 +53,7 @@ module _ (cap : ℕ) (l : List ℕ) (few : cap ≤ noSlot) where
       rw (← climb-starts s cap (e .slot) (e1 .slot) (e2 .slot) (sym (y .0 .back-is)) (x .0 .low) (number d) (number c) (sym near) (sym far) _ refl)
       (climbs cap l few budget s (leaf e) d e1 2 s0 c e2 r2 s1 p tt room T refl w (omega arith) (omega arith))
 
-  pub rebalances : (s : List ℕ) (e : Entry) (d : Side) (e1 : Entry) (r1 : ℕ) (s0 : Tree) (p : Way) → Room s cap → Stands s cap l (plug (node d (leaf e) e1 r1 s0) p)
+  pub rebalances : (s : List ℕ) (e : Entry) (d : Side) (e1 : Entry) (r1 : ℕ) (s0 : Tree) (p : Way) → Long s cap → Stands s cap l (plug (node d (leaf e) e1 r1 s0) p)
       → Ranks (plug tip (step d e1 r1 s0 ∷ p)) → size (plug tip (step d e1 r1 s0 ∷ p)) ≤ noSlot
       → Came s cap l (insertAt e (step d e1 r1 s0 ∷ p)) (rebalanced s cap (e .slot) (e1 .slot))
   rebalances s e d e1 r1 s0 p room T k z =

@@ -6,7 +6,7 @@ use mathlib.Core.List.{List}
 use native.Mathlib.Omega.{arith}
 use Rattle.handle.specs.Numbers.{noSlot}
 use lib.Dec.{lit<}
-use Rattle.arena.specs.Words.{Room, field, put, LEFT, RANK, BACK}
+use Rattle.arena.specs.Words.{Long, field, put, LEFT, RANK, BACK}
 use Rattle.tree.specs.inner.Links.{spreadWith}
 use Rattle.rebalance.specs.inner.Turns.{liftedOne, turnedSame, spreadBelow, turnedAcross}
 use Rattle.wavl.specs.Entry.{Entry, slots}
@@ -43,7 +43,7 @@ pub record Stands (s : List ℕ) (cap : ℕ) (l : List ℕ) (x : Tree) : Type 0 
 pub stands-on : {s t : List ℕ} {cap : ℕ} {l : List ℕ} {x y : Tree} → inorder y ≡ inorder x → Stands s cap l x → Regrown s t cap l y → Stands t cap l y
 stands-on e a b = record { words = b .words; apart = rw e (a .apart); within = rw e (a .within) }
 
-module _ (s : List ℕ) (cap : ℕ) (l : List ℕ) (few : cap ≤ noSlot) (room : Room s cap) where
+module _ (s : List ℕ) (cap : ℕ) (l : List ℕ) (few : cap ≤ noSlot) (room : Long s cap) where
   -- a new rank
   pub ranked-at : (p : Way) (d : Side) (a : Tree) (f : Entry) (r : ℕ) (b : Tree) (v : ℕ) → Stands s cap l (plug (node d a f r b) p)
       → Regrown s (put s cap (f .slot) RANK v) cap l (plug (node d a f v b) p)
@@ -113,7 +113,7 @@ turnedBy right right s cap p0 p1 p2 p3 s1 = turnedSame s cap 1 p0 p1 p2 p3 s1
 turnedBy right left s cap p0 p1 p2 p3 s1 = turnedAcross s cap 0 p0 p1 p2 p3 s1
 turnedBy left right s cap p0 p1 p2 p3 s1 = turnedAcross s cap 1 p0 p1 p2 p3 s1
 
-module _ (s : List ℕ) (cap : ℕ) (l : List ℕ) (few : cap ≤ noSlot) (room : Room s cap) where
+module _ (s : List ℕ) (cap : ℕ) (l : List ℕ) (few : cap ≤ noSlot) (room : Long s cap) where
   pub restructured : (d e : Side) (n0 : Tree) (e1 : Entry) (r1 : ℕ) (s0 : Tree) (e2 : Entry) (r2 : ℕ) (s1 : Tree) (p : Way) → IsFork n0
       → Stands s cap l (plug (node e (node d n0 e1 r1 s0) e2 r2 s1) p)
       → Regrown s (turnedBy d e s cap (topSlot n0) (e1 .slot) (e2 .slot) (parent p) (topSlot s1)) cap l (plug (restructure d e n0 e1 r1 s0 e2 s1) p)

@@ -6,7 +6,8 @@ use lib.IntN.{ℤ}
 use Rattle.handle.specs.declared.Handle.{Handle}
 use Rattle.handle.specs.declared.Side.{Side}
 use Rattle.arena.specs.Keys.{stored}
-use Rattle.arena.specs.Laying.{Fresh, laid, layOut}
+use Rattle.arena.specs.Laying.{Fresh}
+use Rattle.arena.specs.inner.Laying.{laid, layOut}
 use Rattle.arena.specs.declared.laying.LaidOut.{LaidOut}
 use Rattle.arena.specs.declared.laying.LaidOut.the-variants as L
 use Rattle.arena.proofs.Theorems.{laid-is, lays-out, refuses}

@@ -9,7 +9,8 @@ use Rattle.handle.specs.declared.Handle.{Handle}
 use Rattle.handle.specs.declared.Side.{Side}
 use Rattle.handle.specs.declared.Refusal.the-variants.{NotSound, BadLayout}
 use Rattle.arena.specs.Keys.{stored}
-use Rattle.arena.specs.Laying.{Good, Fresh, layOut}
+use Rattle.arena.specs.Laying.{Good, Fresh}
+use Rattle.arena.specs.inner.Laying.{layOut}
 use Rattle.arena.specs.declared.laying.LaidOut.{LaidOut}
 use Rattle.arena.specs.declared.laying.LaidOut.the-variants as L
 use Rattle.insert.specs.declared.place.Inserted.{Inserted}

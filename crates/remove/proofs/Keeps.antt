@@ -4,7 +4,7 @@ use mathlib.Core.Path.{refl, _∙_}
 use mathlib.Core.List.{List}
 use native.Mathlib.Omega.{arith}
 use Rattle.arena.specs.Words.{fields, put, putHead, KEY, LEFT, RIGHT, RANK, BACK, PREV, NEXT, GENERATION, VALUE, STACK, HEIGHT}
-use Rattle.arena.specs.Laying.{unlinked, blankOf}
+use Rattle.arena.specs.inner.Laying.{unlinked, blankOf}
 use Rattle.arena.specs.inner.Slots.{pushed}
 use Rattle.arena.proofs.Laws.{length-put, length-putHead, field-slot, field-off, head-put, rest-put, head-other, field-putHead, rest-putHead}
 use Rattle.chain.specs.inner.Kept.{ChainOnly}

@@ -112,7 +112,7 @@ module _ {s : List ℕ} {q : Queue} (k : Holds s q) where
       small = let a = under-top s cap few (q .tree) noSlot i (k .rule-1 .links) ranks h in let b = shallow in omega arith
 
       go : ((field s cap i BACK ≡ noSlot) × (topSlot (q .tree) ≡ i)) ⊎ Below s cap i → Hangs s cap i
-      go (inl x) = let e : field s cap i BACK ≡ noSlot = x .0 in
+      go (inl x) = let e : field s cap i BACK ≡ noSlot = x .0 in let f = few in
           record { small = small; root = λ m. k .rule-1 .root ∙ x .1; rises = λ m. absurd (omega arith); child = λ m. absurd (omega arith) }
       go (inr x) = let b = x .low in record { small = small; root = λ m. absurd (omega arith); rises = λ m. x .rises; child = λ m. x .child }
 

@@ -8,8 +8,7 @@ use native.Mathlib.Decide.{ℕ-discrete}
 use native.Mathlib.Omega.{arith}
 use lib.Dec.{ltb, eqb}
 use borrow.Author.Tests.{ltb-false, eqb-true}
-use Rattle.handle.specs.Numbers.{noSlot, limit, topLimit}
-use Rattle.handle.proofs.Limits.{limit-fits}
+use Rattle.handle.specs.Numbers.{noSlot, topLimit}
 use Rattle.arena.specs.Words.{field, head, RANK, BACK, TOP, HEIGHT, ROOT}
 use Rattle.arena.specs.Header.{headerOf, Passing}
 use Rattle.arena.proofs.Theorems.{passing}
@@ -79,7 +78,7 @@ record Passed (s : List ℕ) (cap : ℕ) : Type 0 where
   walk : Walk s cap (head s TOP)
 
 few-of : (s : List ℕ) (cap : ℕ) → Passing s cap → cap ≤ noSlot
-few-of s cap p = let h : cap ≤ limit = p .few in let l = limit-fits in omega arith
+few-of s cap p = p .room .1
 
 rules-say : (s : List ℕ) (cap : ℕ) → Passing s cap → rulesTest s cap ≡ true → Passed s cap
 unfolding rulesTest rulesWith topTest

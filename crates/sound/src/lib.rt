@@ -3,15 +3,15 @@
 // From the Rust: _check_invariants of ord/find.rs, with the rules that document 01 adds.
 ghost use mathlib.Core.Path.{_≡_};
 ghost use Prim.Native.Nat.{_<_};
-ghost use Rattle.arena.specs.Words.{Room};
+ghost use Rattle.arena.specs.Words.{Long, Room};
 ghost use Rattle.sound.specs.inner.Check.{topTest, unusedTest, rulesTest};
 ghost use Rattle.sound.specs.Decides.{Decides};
 use arena::header;
 use arena::header::Header;
-use arena::laying::TOP_LIMIT;
 use arena::words;
 use arena::words::HEIGHT;
 use arena::words::TOP;
+use handle::TOP_LIMIT;
 
 pub mod joints;
 pub mod nodes;
@@ -33,7 +33,7 @@ fn good_top(top: u64) -> bool
 
 // Rule 7 of the header: the ten words behind ROOT.
 fn unused(s: &[u64]) -> bool
-    requires { ⌜ Room (now s) 0 ⌝ }
+    requires { ⌜ Long (now s) 0 ⌝ }
     ensures { λ t. ⌜ t ≡ unusedTest 10 (now (s .entry)) ⌝ }
 {
     let mut k: u64 = 10;

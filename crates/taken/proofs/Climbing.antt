@@ -6,7 +6,7 @@ use mathlib.Core.Bool.{Bool, true}
 use mathlib.Core.List.{List, [], _∷_}
 use native.Mathlib.Omega.{arith}
 use lib.ListN.{length}
-use Rattle.arena.specs.Words.{Room}
+use Rattle.arena.specs.Words.{Long}
 use Rattle.wavl.specs.Lists.{Once}
 use Rattle.wavl.specs.Entry.{slots}
 use Rattle.wavl.specs.Tree.{Tree, rank, inorder}
@@ -32,7 +32,7 @@ pub record Climbing (s : List ℕ) (cap : ℕ) (l : List ℕ) (n0 : Tree) (p : W
   pub words : TreeWords s cap (plug n0 p)
   pub slots-are : slots (inorder (plug n0 p)) ≡ l
   pub once : Once l
-  pub room : Room s cap
+  pub room : Long s cap
   pub ranks : Ranks n0
   pub way : WayRanks (suc (rank n0)) p
   pub some : 1 ≤ rank n0 + beside p

@@ -8,7 +8,7 @@ use native.Mathlib.Decide.{decLe, ℕ-discrete}
 use native.Mathlib.Omega.{arith}
 use lib.ListN.{length}
 use Rattle.handle.specs.Numbers.{noSlot}
-use Rattle.arena.specs.Words.{Room, put, RANK}
+use Rattle.arena.specs.Words.{Long, put, RANK}
 use Rattle.arena.proofs.Laws.{length-put}
 use Rattle.wavl.specs.Lists.{In}
 use Rattle.wavl.specs.Entry.{Entry, slots}
@@ -210,7 +210,7 @@ module _ (s : List ℕ) (cap : ℕ) (few : cap ≤ noSlot) (l : List ℕ) (d : S
       D1 : Distinct (plug (node d n0 e1 r1 y) q)
       D1 = rw are1 (c .once)
 
-      room1 : Room s1 cap
+      room1 : Long s1 cap
       room1 = rw (length-put s cap i0 RANK (rank s0 - 1)) (c .room)
 
       pub lowers-both : ¬ (rank b + 1 ≡ rank s0) → rank a + 2 ≡ rank s0 → Out

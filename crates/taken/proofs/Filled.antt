@@ -11,7 +11,7 @@ use borrow.Author.Tests.{eq-eqb, ne-eqb}
 use Rattle.handle.specs.Numbers.{noSlot}
 use lib.Dec.{eqb}
 use Rattle.arena.specs.Branch.{ifte}
-use Rattle.arena.specs.Words.{Room}
+use Rattle.arena.specs.Words.{Long}
 use Rattle.wavl.specs.Lists.{In}
 use Rattle.wavl.specs.Entry.{Entry, slots}
 use Rattle.wavl.specs.Tree.{Side, left, Tree, tip, fork, node, pick, rank, inorder}
@@ -62,7 +62,7 @@ pub came-weaken : (s : List ℕ) (cap : ℕ) (l m : List ℕ) (t : Tree) (y : Li
 came-weaken s cap l m t y f k =
     record { yes = k .yes; words = k .words; only = only-weaken s (y .0) cap (LinkOf l) (LinkOf m) IsRoot IsRoot (λ j g z. record { slot-in = f j (z .slot-in); field-is = z .field-is }) (λ h z. z) (k .only) }
 
-module _ (s : List ℕ) (cap : ℕ) (few : cap ≤ noSlot) (room : Room s cap) (c : Tree) (e : Entry) (q : ℕ) (w : Way) (d : Side) (x : Entry) (r : ℕ) (b : Tree) (p : Way) where
+module _ (s : List ℕ) (cap : ℕ) (few : cap ≤ noSlot) (room : Long s cap) (c : Tree) (e : Entry) (q : ℕ) (w : Way) (d : Side) (x : Entry) (r : ℕ) (b : Tree) (p : Way) where
   abbrev M : Tree
   M = fork c e q tip
 
@@ -89,7 +89,7 @@ module _ (s : List ℕ) (cap : ℕ) (few : cap ≤ noSlot) (room : Room s cap) (
     abbrev s1 : List ℕ
     s1 = lifted s cap few room c e q (P x) D W
 
-    room1 : Room s1 cap
+    room1 : Long s1 cap
     room1 = lifted-room s cap few room c e q (P x) D W
 
     W1 : TreeWords s1 cap (plug (at x) p)

@@ -8,7 +8,7 @@ use native.Mathlib.Omega.{arith}
 use borrow.Author.Tests.{lt-ltb, le-ltb, eq-eqb, ne-eqb}
 use lib.Dec.{lit<}
 use Rattle.handle.specs.Numbers.{noSlot}
-use Rattle.arena.specs.Words.{Room, field, head, LEFT, RIGHT, ROOT}
+use Rattle.arena.specs.Words.{Long, field, head, LEFT, RIGHT, ROOT}
 use Rattle.wavl.specs.Lists.{In, Differ}
 use Rattle.wavl.specs.Entry.{Entry, slots}
 use Rattle.wavl.specs.Tree.{left, Tree, tip, fork, inorder}
@@ -41,7 +41,7 @@ pub parent-on : (cap : ℕ) → cap ≤ noSlot → (p : Way) → parent p < cap 
 parent-on cap few [] low = absurd (omega arith)
 parent-on cap few (step d e r u ∷ p) low = inl refl
 
-module _ (s : List ℕ) (cap : ℕ) (few : cap ≤ noSlot) (room : Room s cap) (c : Tree) (e : Entry) (r : ℕ) (p : Way)
+module _ (s : List ℕ) (cap : ℕ) (few : cap ≤ noSlot) (room : Long s cap) (c : Tree) (e : Entry) (r : ℕ) (p : Way)
     (D : Distinct (plug (fork c e r tip) p)) (w : TreeWords s cap (plug (fork c e r tip) p)) where
   abbrev m : ℕ
   m = e .slot
@@ -90,10 +90,10 @@ module _ (s : List ℕ) (cap : ℕ) (few : cap ≤ noSlot) (room : Room s cap) (
       (tree-child cap l s (parent p) (sideIn p) (topSlot c) (side-in-small p) (λ low. f (parent p) (has-way (parent p) p M (parent-on cap few p low))))
       (tree-back cap l s1 (topSlot c) (parent p) (λ low. f (topSlot c) (has-plug (topSlot c) p M (has-near c e r tip left (topSlot c) (top-has cap c few low)))))
 
-  room1 : Room s1 cap
+  room1 : Long s1 cap
   room1 = rw (tree-child cap (parent p ∷ []) s (parent p) (sideIn p) (topSlot c) (side-in-small p) (λ low. inl refl) .long) room
 
-  pub lifted-room : Room lifted cap
+  pub lifted-room : Long lifted cap
   lifted-room = rw (lifted-only (slots (inorder (plug M p))) (λ j h. h) .long) room
 
   -- no slot of the way is c's

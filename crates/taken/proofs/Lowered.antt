@@ -6,7 +6,7 @@ use mathlib.Core.List.{List, [], _∷_}
 use native.Mathlib.Omega.{arith}
 use borrow.Author.Tests.{lt-ltb, le-ltb, eq-eqb, ne-eqb, lt-leb}
 use Rattle.handle.specs.Numbers.{noSlot}
-use Rattle.arena.specs.Words.{Room, field, put, LEFT, RIGHT, RANK}
+use Rattle.arena.specs.Words.{Long, field, put, LEFT, RIGHT, RANK}
 use Rattle.wavl.specs.Lists.{In}
 use Rattle.wavl.specs.Entry.{Entry, slots}
 use Rattle.wavl.specs.Tree.{Side, left, right, other, Tree, tip, fork, node, rank, entry, child, inorder}
@@ -43,7 +43,7 @@ node-other left x e r y = refl
 node-other right x e r y = refl
 
 -- the rank r at the node of e
-module _ (s : List ℕ) (cap : ℕ) (few : cap ≤ noSlot) (room : Room s cap) (l : List ℕ) (d : Side) (a : Tree) (e : Entry) (q : ℕ) (b : Tree) (p : Way) (r : ℕ) where
+module _ (s : List ℕ) (cap : ℕ) (few : cap ≤ noSlot) (room : Long s cap) (l : List ℕ) (d : Side) (a : Tree) (e : Entry) (q : ℕ) (b : Tree) (p : Way) (r : ℕ) where
   pub lowered : Distinct (plug (node d a e q b) p) → ((j : ℕ) → Has j (plug (node d a e q b) p) → In j l) → TreeWords s cap (plug (node d a e q b) p)
       → Regrown s (put s cap (e .slot) RANK r) cap l (plug (node d a e r b) p)
   lowered D within T =

@@ -8,8 +8,8 @@ use native.Mathlib.Decide.{ℕ-discrete}
 use native.Mathlib.Omega.{arith}
 use lib.ListN.{length, length-append}
 use Rattle.handle.specs.Numbers.{noSlot}
-use Rattle.arena.specs.Words.{Room, field, KEY, PREV, NEXT, GENERATION, VALUE, STACK}
-use Rattle.arena.specs.Laying.{blankOf}
+use Rattle.arena.specs.Words.{Long, field, KEY, PREV, NEXT, GENERATION, VALUE, STACK}
+use Rattle.arena.specs.inner.Laying.{blankOf}
 use Rattle.arena.specs.inner.Slots.{pushed, freeSlot}
 use Rattle.arena.specs.declared.slots.Freed as F
 use Rattle.wavl.specs.Lists.{All, In, Differ, Once}
@@ -78,8 +78,8 @@ module _ (s u : List ℕ) (q : Queue) (d : Separate q) (l : List Entry) (x : Ent
   not-free : ¬ (In i (freeSlots free))
   not-free z = free-not-live d i z (rw (old, slots-put l x m) (in-right i (slots l) (i ∷ slots m) (inl refl)))
 
-  room : Room u cap
-  room = k .header .passes .room
+  room : Long u cap
+  room = k .header .passes .room .0
 
   -- a slot that was in use is i, or is still
   used-still : (j : ℕ) → In j (usedSlots q) → (j ≡ i) ⊎ In j (slots (inorder t) ++ freeSlots free)

@@ -9,7 +9,7 @@ use native.Mathlib.Omega.{arith}
 use borrow.Author.Tests.{eq-eqb, ne-eqb, le-leb, lt-leb}
 use lib.ListN.{length}
 use Rattle.handle.specs.Numbers.{noSlot}
-use Rattle.arena.specs.Words.{Room, field, put, LEFT, RIGHT, RANK}
+use Rattle.arena.specs.Words.{Long, field, put, LEFT, RIGHT, RANK}
 use Rattle.arena.proofs.Laws.{length-put}
 use Rattle.wavl.specs.Lists.{Once}
 use Rattle.wavl.specs.Entry.{Entry, slots}
@@ -39,7 +39,7 @@ pub record Lifting (s : List ℕ) (cap : ℕ) (l : List ℕ) (c : Tree) (p : Way
   pub words : TreeWords s cap (plug c p)
   pub slots-are : slots (inorder (plug c p)) ≡ l
   pub once : Once l
-  pub room : Room s cap
+  pub room : Long s cap
   pub ranks : Ranks c
   pub way : WayRanks (suc (rank c)) p
   pub low : peak (suc (rank c)) p < 64

@@ -7,7 +7,7 @@ use mathlib.Core.List.{List, _∷_, _++_}
 use native.Mathlib.Omega.{arith}
 use lib.Dec.{lit<}
 use Rattle.handle.specs.Numbers.{noSlot}
-use Rattle.arena.specs.Words.{Room, ROOT}
+use Rattle.arena.specs.Words.{Long, ROOT}
 use Rattle.wavl.specs.Lists.{In, Differ}
 use Rattle.wavl.specs.Entry.{Entry, slots}
 use Rattle.wavl.specs.Tree.{left, Tree, fork, inorder}
@@ -34,7 +34,7 @@ use Rattle.holds.proofs.AnyDepth.{NoHead}
 use Rattle.taken.proofs.Kept.{TreeOnly, tree-trans, tree-relinked}
 use Rattle.taken.proofs.Lifted.{parent-on}
 
-module _ (s : List ℕ) (cap : ℕ) (few : cap ≤ noSlot) (room : Room s cap) (a : Tree) (x : Entry) (r : ℕ) (b : Tree) (p : Way)
+module _ (s : List ℕ) (cap : ℕ) (few : cap ≤ noSlot) (room : Long s cap) (a : Tree) (x : Entry) (r : ℕ) (b : Tree) (p : Way)
     (D : Distinct (plug (fork a x r b) p)) (w : TreeWords s cap (plug (fork a x r b) p)) (e : Entry) (lowm : e .slot < cap)
     (gone : ¬ (Has (e .slot) (plug (fork a x r b) p))) where
   abbrev i : ℕ
@@ -80,10 +80,10 @@ module _ (s : List ℕ) (cap : ℕ) (few : cap ≤ noSlot) (room : Room s cap) (
   unfolding replaced standing
   stands-is = rw (W .below .0 .near-is, W .below .0 .far-is, W .below .0 .back-is, W .below .0 .rank-is)
 
-  room1 : Room s1 cap
+  room1 : Long s1 cap
   room1 = rw (length-node s cap 0 m (parent p) (topSlot a) (topSlot b) r (omega arith) lowm) room
 
-  room2 : Room s2 cap
+  room2 : Long s2 cap
   room2 = rw (length-back s1 cap (topSlot a) m) room1
 
   -- the first write leaves a tree without m; the others one apart from a, or from b
@@ -174,5 +174,5 @@ module _ (s : List ℕ) (cap : ℕ) (few : cap ≤ noSlot) (room : Room s cap) (
       go (inl k) = inl k
       go (inr k) = inr (rw (around-is x) (in-put j front i rear k))
 
-  pub stands-room : Room stood cap
+  pub stands-room : Long stood cap
   stands-room = rw (stands-only (m ∷ slots (inorder (plug old p))) (λ j h. inr h) (inl refl) .long) room

@@ -7,7 +7,7 @@ use mathlib.Core.List.{List, [], _∷_, _++_}
 use native.Mathlib.Omega.{arith}
 use borrow.Author.Tests.{eq-eqb, ne-eqb, lt-leb}
 use Rattle.handle.specs.Numbers.{noSlot}
-use Rattle.arena.specs.Words.{Room, field, LEFT, PREV, NEXT}
+use Rattle.arena.specs.Words.{Long, field, LEFT, PREV, NEXT}
 use Rattle.wavl.specs.Entry.{Entry, slots}
 use Rattle.wavl.specs.Tree.{left, right, Tree, tip, fork, rank, inorder}
 use Rattle.wavl.specs.Way.{step, Way, plug}
@@ -31,7 +31,7 @@ use Rattle.taken.proofs.Ends.{EndSplit, end-split, closes, between, pre
 -- the words hold a ranked tree with distinct slots and its chain
 pub record Taking (s : List ℕ) (cap : ℕ) (t : Tree) : Type 0 where
   pub few : cap ≤ noSlot
-  pub room : Room s cap
+  pub room : Long s cap
   pub distinct : Distinct t
   pub words : TreeWords s cap t
   pub ranks : Ranks t

@@ -3,7 +3,7 @@
 use Prim.Native.Nat.{ℕ, _≤_}
 use mathlib.Core.List.{List, append-assoc}
 use Rattle.handle.specs.Numbers.{noSlot}
-use Rattle.arena.specs.Words.{Room, LEFT, BACK}
+use Rattle.arena.specs.Words.{Long, LEFT, BACK}
 use Rattle.wavl.specs.Lists.{In}
 use Rattle.wavl.specs.Entry.{Entry, slots}
 use Rattle.wavl.specs.Tree.{Side, left, right, Tree, node, inorder}
@@ -36,7 +36,7 @@ own : (x y : Tree) → Same y x → (j g : ℕ) → Has j y → LEFT ≤ g → g
 own x y e j g h lo up = record { slot-in = rw e at h; field-is = record { from = lo; to = up } }
 
 -- "rotate s0 up to n1's old rank, and n1 to a's rank plus 1": with any rank q1 for n1
-module _ (s : List ℕ) (cap : ℕ) (few : cap ≤ noSlot) (room : Room s cap) (l : List ℕ) (d : Side) (n0 : Tree) (e1 : Entry) (r1 : ℕ) (a : Tree) (e0 : Entry) (r0 : ℕ)
+module _ (s : List ℕ) (cap : ℕ) (few : cap ≤ noSlot) (room : Long s cap) (l : List ℕ) (d : Side) (n0 : Tree) (e1 : Entry) (r1 : ℕ) (a : Tree) (e0 : Entry) (r0 : ℕ)
     (b : Tree) (p : Way) (q1 : ℕ) where
   abbrev old : Tree
   old = node d n0 e1 r1 (node d a e0 r0 b)
@@ -56,7 +56,7 @@ module _ (s : List ℕ) (cap : ℕ) (few : cap ≤ noSlot) (room : Room s cap) (
       (rolled-links s cap (parent p) d n0 a b e1 e0 q1 r1 few room (O .0 .low) (P .0 .low) Dn (O .1) (e0 .slot) (P .1) (P .2)) tt
 
 -- "a rises to n1's old rank, n1 and s0 get a's old rank"
-module _ (s : List ℕ) (cap : ℕ) (few : cap ≤ noSlot) (room : Room s cap) (l : List ℕ) (d : Side) (n0 : Tree) (e1 : Entry) (r1 : ℕ)
+module _ (s : List ℕ) (cap : ℕ) (few : cap ≤ noSlot) (room : Long s cap) (l : List ℕ) (d : Side) (n0 : Tree) (e1 : Entry) (r1 : ℕ)
     (c : Tree) (ea : Entry) (ra : ℕ) (e : Tree) (e0 : Entry) (r0 : ℕ) (b : Tree) (p : Way) where
   abbrev old2 : Tree
   old2 = node d n0 e1 r1 (node d (node d c ea ra e) e0 r0 b)

@@ -6,7 +6,7 @@ use mathlib.Core.Logic.{_⊎_, inl, inr}
 use mathlib.Core.List.{List, [], _∷_, _++_}
 use native.Mathlib.Omega.{arith}
 use Rattle.handle.specs.Numbers.{noSlot}
-use Rattle.arena.specs.Words.{Room, LEFT, BACK, PREV, NEXT, FIRST, LAST, ROOT}
+use Rattle.arena.specs.Words.{Long, LEFT, BACK, PREV, NEXT, FIRST, LAST, ROOT}
 use Rattle.wavl.specs.Lists.{All, In, Differ, Once}
 use Rattle.wavl.specs.Entry.{Entry, slots}
 use Rattle.wavl.specs.Tree.{Tree}
@@ -89,7 +89,7 @@ module _ (s s1 : List ℕ) (q : Queue) (d : Separate q) (w : Words s q) (l : Lis
   few : cap ≤ noSlot
   few = few-slots w
 
-  room1 : Room s1 cap
+  room1 : Long s1 cap
   room1 = only-room cap (LinkOf L) IsRoot s s1 o1 (room-of w)
 
   low : All (Under cap) (slots (l ++ (x ∷ m)))
@@ -110,12 +110,12 @@ module _ (s s1 : List ℕ) (q : Queue) (d : Separate q) (w : Words s q) (l : Lis
 
   -- the closed ends are slots of the chain, or none
   last-live : (k : List Entry) (j : ℕ) → j < cap → j ≡ lastSlot k → In j (slots k)
-  last-live [] j h e = absurd (omega arith)
+  last-live [] j h e = let f = few in absurd (omega arith)
   last-live (e ∷ k) j h z = rw z (last-in-slots e k)
 
   first-live : (k : List Entry) (j : ℕ) → j < cap → j ≡ firstSlot k → In j (slots k)
   unfolding slots
-  first-live [] j h e = absurd (omega arith)
+  first-live [] j h e = let f = few in absurd (omega arith)
   first-live (e ∷ k) j h z = inl z
 
   o2 : Only s1 u cap (ClosedAt a b) IsEnd

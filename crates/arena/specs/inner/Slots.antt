@@ -8,7 +8,7 @@ use Rattle.handle.specs.Numbers.{noSlot}
 use Rattle.handle.specs.declared.Handle.{Handle}
 use Rattle.arena.specs.Branch.{ifte}
 use Rattle.arena.specs.Words.{field, put, head, putHead, GENERATION, STACK, TOP, HEIGHT}
-use Rattle.arena.specs.Laying.{blankOf}
+use Rattle.arena.specs.inner.Laying.{blankOf}
 use Rattle.arena.specs.declared.slots.Taken.{Taken}
 use Rattle.arena.specs.declared.slots.Taken.the-variants.{At, Full}
 use Rattle.arena.specs.declared.slots.Taken as T

@@ -1,4 +1,4 @@
-use Rattle.arena.specs.Laying.{blankOf}
+use Rattle.arena.specs.inner.Laying.{blankOf}
 use borrow.Author.Needs.{needs}
 use Rattle.arena.proofs.laying.blank.Statement.{statement}
 use Rattle.arena.proofs.laying.blank.Tie as tie

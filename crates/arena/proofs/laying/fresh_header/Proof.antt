@@ -1,4 +1,4 @@
-use Rattle.arena.specs.Laying.{freshHead}
+use Rattle.arena.specs.inner.Laying.{freshHead}
 use borrow.Author.Needs.{needs}
 use Rattle.arena.proofs.laying.fresh_header.Statement.{statement}
 use Rattle.arena.proofs.laying.fresh_header.Tie as tie

@@ -1,4 +1,4 @@
-use Rattle.arena.specs.Laying.{freshSlot}
+use Rattle.arena.specs.inner.Laying.{freshSlot}
 use borrow.Author.Needs.{needs}
 use Rattle.arena.proofs.laying.fresh_slot.Statement.{statement}
 use Rattle.arena.proofs.laying.fresh_slot.Tie as tie

@@ -1,5 +1,5 @@
 use Rattle.handle.specs.Numbers.{limit, topLimit}
-use Rattle.arena.specs.Laying.{goodLayout}
+use Rattle.arena.specs.inner.Laying.{goodLayout}
 use Rattle.arena.proofs.Paths.{paths}
 use borrow.Author.Needs.{needs}
 use Rattle.arena.proofs.laying.good_layout.Statement.{statement}

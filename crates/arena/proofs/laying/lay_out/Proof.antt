@@ -1,4 +1,5 @@
 use native.Mathlib.Omega.{arith}
+use Rattle.handle.proofs.Limits.{limit-fits}
 use Rattle.arena.proofs.Paths.{tested}
 use Rattle.arena.proofs.Answers.{good-yes, lay-done, lay-refused}
 use borrow.Author.Needs.{needs}
@@ -13,7 +14,9 @@ fresh-header-requires c κs = let g = good-yes _ _ _ (tested _ _ (c .before .bef
 
 fresh-slots-requires : tie.Need-fresh-slots-requires
 fresh-slots-requires c κs =
-    let g = good-yes _ _ _ (tested _ _ (c .before .before .before .before .before .before .good-layout .ensures) (c .before .before .before .before .before .if1 .taken)) in omega arith
+    let g = good-yes _ _ _ (tested _ _ (c .before .before .before .before .before .before .good-layout .ensures) (c .before .before .before .before .before .if1 .taken)) in
+    let fits = limit-fits in
+    omega arith
 
 same-length : tie.Need-same-length
 same-length c = search needs

@@ -1,4 +1,4 @@
-use Rattle.arena.specs.Laying.{unlinked}
+use Rattle.arena.specs.inner.Laying.{unlinked}
 use borrow.Author.Needs.{needs}
 use Rattle.arena.proofs.laying.unlink.Statement.{statement}
 use Rattle.arena.proofs.laying.unlink.Tie as tie

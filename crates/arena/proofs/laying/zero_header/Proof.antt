@@ -2,16 +2,17 @@ use mathlib.Core.Path.{_≡_, refl}
 use Prim.Native.Nat.{_-_}
 use native.Mathlib.Omega.{arith}
 use lib.ListN.{length}
-use Rattle.arena.specs.Laying.{zeroed}
+use Rattle.arena.specs.Words.{headWords}
+use Rattle.arena.specs.inner.Laying.{zeroed}
 use Rattle.arena.proofs.Turns.{zero-turn, zero-end}
 use Rattle.arena.proofs.laying.zero_header.Statement.{statement}
 use Rattle.arena.proofs.laying.zero_header.Tie as tie
 
 abbrev Inv-loop : tie.InvT-loop
-Inv-loop s₀ h₀ s h = (length s ≡ length s₀) × (zeroed (16 - h) s ≡ zeroed 16 s₀)
+Inv-loop s₀ h₀ s h = (length s ≡ length s₀) × (zeroed (headWords - h) s ≡ zeroed headWords s₀)
 
 abbrev μ-loop : tie.MeasureT-loop
-μ-loop s₀ h₀ s h = 16 - h
+μ-loop s₀ h₀ s h = headWords - h
 
 loop-holds : tie.Need-loop-holds Inv-loop μ-loop
 loop-holds c = (omega arith, refl)
