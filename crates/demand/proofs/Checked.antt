@@ -6,15 +6,13 @@ use mathlib.Core.List.{List}
 use lib.ListN.{length}
 use Rattle.arena.specs.Laying.{Good}
 use Rattle.arena.specs.inner.Laying.{layOut}
-use Rattle.wavl.specs.Lists.{All}
 use Rattle.rules.specs.Queue.{Queue}
-use Rattle.rules.specs.Calls.{Call}
+use Rattle.rules.specs.Calls.{Call, runBy}
 use Rattle.holds.specs.Holds.{SoundStore}
 use Rattle.sound.specs.Decides.{Decides}
 use Rattle.queue.specs.Promises.{Writes}
 use Rattle.queue.proofs.Follows.{stays-sound}
-use Rattle.history.specs.Follow.{runBy}
-use Rattle.demand.specs.Store.{onStore, Fits}
+use Rattle.demand.specs.Store.{onStore}
 use Rattle.demand.proofs.Linked.{demand-3-of-the-store}
 
 -- a call that writes leaves a sound store sound, so that the check's answer b is yes; a call that looks leaves the store as it is
@@ -22,6 +20,6 @@ pub yes-after-a-call : {A B : Type 0} {five : A} {model : List ℕ × A} {reads 
     → Writes five model reads rule s t r → SoundStore s → (b : Bool) → Decides t b → b ≡ true
 yes-after-a-call w x b d = d .yes .1 (stays-sound w x)
 
-pub yes-after-a-history : (s : List ℕ) (capacity top : ℕ) → Good (length s) capacity top → (l : List Call) → All Fits l
+pub yes-after-a-history : (s : List ℕ) (capacity top : ℕ) → Good (length s) capacity top → (l : List Call)
     → (b : Bool) → Decides (runBy onStore l (layOut s capacity top .0) .1) b → b ≡ true
-yes-after-a-history s capacity top g l a b d = let m = demand-3-of-the-store s capacity top g l a in d .yes .1 (m .queue, m .keeps)
+yes-after-a-history s capacity top g l b d = let m = demand-3-of-the-store s capacity top g l in d .yes .1 (m .queue, m .keeps .holds)

@@ -5,13 +5,15 @@ use mathlib.Core.Bool.{Bool}
 use mathlib.Core.List.{List, [], _∷_}
 use Prim.Native.Nat.{ℕ}
 use lib.ListN.{length}
-use Rattle.rules.specs.Queue.{Queue, entries}
+use Rattle.handle.specs.Numbers.{InRange}
+use Rattle.rules.specs.Queue.{Queue, fresh, entries}
 use Rattle.rules.specs.Sound.{Sound}
 use Rattle.rules.specs.Calls.{Call, Answer, answer, runBy, run}
+use Rattle.rules.proofs.Kept.{fresh-sound}
 use Rattle.rules.proofs.History.{answer-sound}
 use Rattle.history.specs.Book.{begun, kept}
 use Rattle.history.specs.Follow.{Follows, Demanded}
-use Rattle.history.proofs.Demand3.{demand-3}
+use Rattle.history.proofs.Demand3.{demand-3, demand-3-fresh}
 
 module _ (S : Type 0) (step : (c : Call) → S → Answer c × S) (enough : ℕ → Bool) (Keeps : S → Queue → Type 0) (f : Follows S step enough Keeps) where
   -- the whole run answers as the definitions do, and ends with their queue
@@ -30,4 +32,13 @@ module _ (S : Type 0) (step : (c : Call) → S → Answer c × S) (enough : ℕ 
   follows-demand q o s k l =
       let i = follows-run l s q o k in
       let d = demand-3 enough q o l in
+      record { queue = run enough l q .1; keeps = i .1; demand = rw (i .0) d; answers = λ c. f .same-answer c (runBy step l s .1) (run enough l q .1) (d .sound) (i .1) }
+
+  -- a store laid out fresh: the case with no entries
+  pub follows-fresh : (capacity top : ℕ) → InRange capacity top → (s : S) → Keeps s (fresh capacity top) → (l : List Call)
+      → Demanded S step enough Keeps (kept (begun [] capacity) (runBy step l s .0)) (runBy step l s .1)
+  follows-fresh capacity top r s k l =
+      let q = fresh capacity top in
+      let i = follows-run l s q (fresh-sound capacity top r) k in
+      let d = demand-3-fresh enough capacity top r l in
       record { queue = run enough l q .1; keeps = i .1; demand = rw (i .0) d; answers = λ c. f .same-answer c (runBy step l s .1) (run enough l q .1) (d .sound) (i .1) }

@@ -9,7 +9,7 @@ use Rattle.handle.specs.Numbers.{noSlot}
 use Rattle.wavl.specs.Entry.{Entry}
 use Rattle.wavl.specs.Tree.{Tree, tip, fork, inorder}
 use Rattle.wavl.proofs.Lists.{all-left, all-right}
-use Rattle.rules.specs.Queue.{Handle, Queue}
+use Rattle.rules.specs.Queue.{Handle, Queue, queueOf}
 use Rattle.holds.specs.Ends.{topSlot}
 use Rattle.holds.specs.Links.{Links}
 use Rattle.holds.specs.Entries.{EntryWords, AllEntries}
@@ -65,7 +65,7 @@ one-queue {s} {q} {q′} h k =
     (sym (h .rule-1 .root) ∙ k .rule-1 .root) in
     let f : q .free ≡ q′ .free =
     free-one s (q .capacity) (q .free) (q′ .free) (h .rule-5 .free .stacked) (rw c (k .rule-5 .free .stacked)) (sym (h .rule-5 .free .height) ∙ k .rule-5 .free .height) in
-    λ j. record { capacity = c j; top = t j; tree = x j; free = f j }
+    λ j. queueOf (c j) (t j) (x j) (f j)
 
 -- so the store's soundness says which queue it holds
 pub same-queue : {s : List ℕ} (x y : SoundStore s) → x .0 ≡ y .0

@@ -9,7 +9,7 @@ use Rattle.arena.specs.Words.{PREV, TOP, ROOT}
 use Rattle.wavl.specs.Entry.{slots}
 use Rattle.wavl.specs.Tree.{Tree, inorder}
 use Rattle.wavl.proofs.Lists.{in-left}
-use Rattle.rules.specs.Queue.{Queue, entries}
+use Rattle.rules.specs.Queue.{Queue, entries, changed}
 use Rattle.rules.specs.Sound.{freeSlots, usedSlots}
 use Rattle.holds.specs.Links.{TreeWords}
 use Rattle.holds.specs.Holds.{HeaderWords, Words}
@@ -28,7 +28,7 @@ header-stays s t q W H o n w =
     record { passes = passing-stays s t (q .capacity) W H o (n _ (omega arith)) (w .passes); top-is = o .heads TOP (lit< tt) (n _ (omega arith)) ∙ w .top-is }
 
 abbrev pub withTree : Tree → Queue → Queue
-withTree x q = record { capacity = q .capacity; top = q .top; tree = x; free = q .free }
+withTree x q = changed x (q .free) q
 
 not-link : (l : List ℕ) (j g : ℕ) → PREV ≤ g → ¬ (LinkOf l j g)
 not-link l j g h k = let m = k .field-is in omega arith

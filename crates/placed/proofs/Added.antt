@@ -24,7 +24,7 @@ use Rattle.wavl.proofs.Lists.{in-left, in-right, pairwise-left, slots-append}
 use Rattle.wavl.proofs.Order.{insertAt-same}
 use Rattle.wavl.proofs.Rule.{ranked→ranks}
 use Rattle.rules.specs.Answers.{Inserted, new}
-use Rattle.rules.specs.Queue.{Handle, Queue, entryWith, entries}
+use Rattle.rules.specs.Queue.{Handle, Queue, entryWith, entries, changed}
 use Rattle.rules.specs.Insert.{addWith}
 use Rattle.rules.specs.Sound.{Sound, freeSlots}
 use Rattle.wavl.specs.Lists.{Differ}
@@ -49,7 +49,7 @@ placedAt s cap (step d e r u ∷ p) key value = placedBeside s cap (e .slot) (nu
 
 -- the queue with the entry added
 abbrev pub addedQueue : Queue → Entry → Way → List Handle → Queue
-addedQueue q x p rest = record { capacity = q .capacity; top = q .top; tree = insertAt x p; free = rest }
+addedQueue q x p rest = changed (insertAt x p) rest q
 
 sep-of : (q : Queue) (x : Entry) (p : Way) (rest : List Handle) → Sound (addedQueue q x p rest) → Separate (hungQueue q x p rest)
 sep-of q x p rest d = let e = sym (insertAt-same x p) in record { apart = rw e (d .apart); within = rw e (d .within) }

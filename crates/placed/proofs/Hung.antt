@@ -19,7 +19,7 @@ use Rattle.wavl.specs.Tree.{left, tip, leaf, inorder}
 use Rattle.wavl.specs.Way.{step, Way, plug, before, after}
 use Rattle.wavl.proofs.Lists.{in-left, in-right, in-cases, pairwise-left, slots-append}
 use Rattle.wavl.proofs.Order.{plug-around, empty-place-order}
-use Rattle.rules.specs.Queue.{Handle, Queue, entryWith, entries}
+use Rattle.rules.specs.Queue.{Handle, Queue, entryWith, entries, changed}
 use Rattle.rules.specs.Sound.{freeSlots, usedSlots, Under}
 use Rattle.rules.proofs.Lists.{all-put, slots-put, in-put}
 use Rattle.holds.specs.Ends.{firstSlot, lastSlot}
@@ -46,7 +46,7 @@ use Rattle.placed.proofs.Hanging.{OwnOf, leafed, leaf-only, leaf-key, l
 
 -- the queue with the leaf x at the place, and the handles `rest` left
 abbrev pub hungQueue : Queue → Entry → Way → List Handle → Queue
-hungQueue q x p rest = record { capacity = q .capacity; top = q .top; tree = plug (leaf x) p; free = rest }
+hungQueue q x p rest = changed (plug (leaf x) p) rest q
 
 module _ {s : List ℕ} {q : Queue} (dq : Separate q) (w : Words s q) (h : Handle) (rest : List Handle) (free : q .free ≡ h ∷ rest) (k v : ℕ)
     (p : Way) (e : plug tip p ≡ q .tree) (sep : Separate (hungQueue q (entryWith h k v) p rest)) where

@@ -13,4 +13,3 @@ pub mod Preparing
 pub mod Neighbours
 pub mod Manual
 pub mod Theorems
-pub mod OneAnswer

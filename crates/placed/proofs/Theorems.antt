@@ -13,8 +13,9 @@ use Rattle.insert.specs.inner.Place.{insertNormal, insertEmpty, insertManual}
 use Rattle.insert.specs.inner.Ahead.{aheadNormal, aheadEmpty, aheadManual}
 use Rattle.insert.proofs.Laws.{insert-normal-within, insert-empty-within, insert-manual-within}
 use Rattle.rules.specs.Queue.{Queue}
+use Rattle.rules.specs.Insert.{normal, onEmpty, manual}
 use Rattle.rules.specs.Insert as Rules
-use Rattle.rules.proofs.Insertions.{normal-sound, empty-sound, manual-sound}
+use Rattle.rules.proofs.Insertions.{insert-sound}
 use Rattle.holds.specs.Handles.{plain}
 use Rattle.holds.specs.Holds.{Holds}
 use Rattle.holds.proofs.Parts.{sound-of}
@@ -31,22 +32,22 @@ module _ {s : List ℕ} {q : Queue} (k : Holds s q) (key : ℤ) where
   pub normal-means : (value : ℕ) → Inserts s cap (insertNormal s cap key value) (Rules.insertNormal (stored key) value q)
   unfolding insertNormal
   normal-means value =
-      carries-out k key value (preparedNormal s cap (stored key)) _ (normal-prepares k (stored key)) (normal-sound (stored key) value q (sound-of k))
+      carries-out k key value (preparedNormal s cap (stored key)) _ (normal-prepares k (stored key)) (insert-sound (stored key) value q (sound-of k) normal)
       (insert-normal-within s cap key value)
 
-  pub normal-ahead : aheadMeans (aheadNormal s cap key) ≡ Rules.aheadNormal (stored key) q
-  unfolding aheadNormal Rules.aheadNormal
+  pub normal-ahead : aheadMeans (aheadNormal s cap key) ≡ Rules.foresee normal (stored key) q
+  unfolding aheadNormal Rules.foresee
   normal-ahead = foretells k (stored key) (preparedNormal s cap (stored key)) _ (normal-prepares k (stored key))
 
   -- "Empty: only into an empty queue."
   pub empty-means : (value : ℕ) → Inserts s cap (insertEmpty s cap key value) (Rules.insertEmpty (stored key) value q)
   unfolding insertEmpty
   empty-means value =
-      carries-out k key value (preparedEmpty s) _ (empty-prepares k (stored key)) (empty-sound (stored key) value q (sound-of k))
+      carries-out k key value (preparedEmpty s) _ (empty-prepares k (stored key)) (insert-sound (stored key) value q (sound-of k) onEmpty)
       (insert-empty-within s cap key value)
 
-  pub empty-ahead : aheadMeans (aheadEmpty s cap) ≡ Rules.aheadEmpty (stored key) q
-  unfolding aheadEmpty Rules.aheadEmpty
+  pub empty-ahead : aheadMeans (aheadEmpty s cap) ≡ Rules.foresee onEmpty (stored key) q
+  unfolding aheadEmpty Rules.foresee
   empty-ahead = foretells k (stored key) (preparedEmpty s) _ (empty-prepares k (stored key))
 
   -- "Manual: a live handle .. and a side."
@@ -54,9 +55,9 @@ module _ {s : List ℕ} {q : Queue} (k : Holds s q) (key : ℤ) where
     pub manual-means : (value : ℕ) → Inserts s cap (insertManual s cap h side key value) (Rules.insertManual (plain h) (sideMeans side) (stored key) value q)
     unfolding insertManual
     manual-means value =
-        carries-out k key value (preparedManual s cap h side (stored key)) _ (manual-prepares k (stored key) h side) (manual-sound (stored key) value q (sound-of k) (plain h) (sideMeans side))
+        carries-out k key value (preparedManual s cap h side (stored key)) _ (manual-prepares k (stored key) h side) (insert-sound (stored key) value q (sound-of k) (manual (plain h) (sideMeans side)))
         (insert-manual-within s cap key value h side)
 
-    pub manual-ahead : aheadMeans (aheadManual s cap h side key) ≡ Rules.aheadManual (plain h) (sideMeans side) (stored key) q
-    unfolding aheadManual Rules.aheadManual
+    pub manual-ahead : aheadMeans (aheadManual s cap h side key) ≡ Rules.foresee (manual (plain h) (sideMeans side)) (stored key) q
+    unfolding aheadManual Rules.foresee
     manual-ahead = foretells k (stored key) (preparedManual s cap h side (stored key)) _ (manual-prepares k (stored key) h side)

@@ -1,5 +1,5 @@
 -- What the answers of insertion and look-ahead mean: crate `insert`'s kinds read as crate `rules`' answers, refusals by document 01's number.
--- A reader may rely on: Inserts is the whole promise of an insertion; proofs/OneAnswer shows that nothing else meets it.
+-- A reader may rely on: Inserts is the whole promise of an insertion; that nothing else meets it is shown in crate `queue` (OneMeaning).
 use Prim.Native.Nat.{ℕ}
 use mathlib.Core.Path.{_≡_}
 use mathlib.Core.List.{List}
@@ -9,8 +9,7 @@ use Rattle.insert.specs.inner.Kept.{Within}
 use Rattle.insert.specs.declared.place.Inserted as I
 use Rattle.insert.specs.declared.ahead.Ahead as A
 use Rattle.rules.specs.Queue.{Queue}
-use Rattle.rules.specs.Answers.{Inserted, new, replacing, notInserted, Ahead, wouldAdd, wouldReplace, wouldRefuse}
-use Rattle.rules.specs.Insert.{Where, less, equal, greater}
+use Rattle.rules.specs.Answers.{Where, less, equal, greater, Inserted, new, replacing, notInserted, Ahead, wouldAdd, wouldReplace, wouldRefuse}
 use Rattle.holds.specs.Handles.{plain}
 use Rattle.holds.specs.Holds.{Holds}
 

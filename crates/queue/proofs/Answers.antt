@@ -73,7 +73,7 @@ module _ (s : List ℕ) (cap k : ℕ) (r : Found) (is : r ≡ seekModel s cap k)
   unfolding searched
   searched-greater p d n h e f z = rw (← is, e, f, ne-eqb d 0 z)
 
-  pub searched-empty : r ≡ F.Empty → S.Empty ≡ searched s cap k
+  pub searched-empty : r ≡ F.Empty → S.Empty 0 ≡ searched s cap k
   unfolding searched
   searched-empty e = rw (← is, e)
 

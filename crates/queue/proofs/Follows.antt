@@ -1,38 +1,45 @@
 -- What follows from the promises on a sound store: refusals come exactly when document 01's table says and change nothing, a sound
 -- store stays sound, and a search's count is the length of the stored path, within its bound.
 use Prim.Native.Nat.{ℕ, _+_, _*_, _^_, _≤_}
-use mathlib.Core.Path.{_≡_, sym, _∙_, ap, subst}
-use mathlib.Core.Logic.{_⊎_, _↔_}
+use mathlib.Core.Path.{_≡_, refl, sym, _∙_, ap, subst}
+use mathlib.Core.Logic.{_⊎_, inl, inr, _↔_}
+use mathlib.Core.Bool.{Bool, true, false}
 use mathlib.Core.List.{List}
-use mathlib.Core.Option.{some}
+use native.Mathlib.Omega.{arith}
 use lib.IntN.{ℤ}
 use lib.ListN.{length}
 use Rattle.handle.specs.declared.Handle as H
 use Rattle.handle.specs.declared.Side as D
 use Rattle.arena.specs.Keys.{stored}
+use Rattle.arena.specs.Laying.{Good}
+use Rattle.arena.specs.declared.laying.LaidOut as L
 use Rattle.insert.specs.declared.place.Inserted as I
+use Rattle.insert.specs.declared.ahead.Ahead as A
 use Rattle.remove.specs.declared.removing.Removed as X
 use Rattle.remove.specs.declared.reading.Reading as R
 use Rattle.wavl.specs.Search.{path}
 use Rattle.wavl.specs.Tree.{left, right}
 use Rattle.rules.specs.Queue.{Queue, Live, Has, entries}
-use Rattle.rules.specs.Answers.{Inserted, notInserted, Removed, notRemoved, notRead, notStepped, Found, notWithinCapacity, failedOrdRequirement, invalidPtr}
-use Rattle.rules.specs.Look.{searchFor}
+use Rattle.rules.specs.Answers.{laid, notLaid, notInserted, wouldRefuse, notRemoved, notRead, notStepped, notFound, notWithinCapacity, failedOrdRequirement, invalidPtr, badLayout}
+use Rattle.rules.specs.LayOut as Rules
+use Rattle.rules.specs.Insert.{Kind, normal, onEmpty, manual, insert, foresee}
 use Rattle.rules.specs.Table.{NoSlot, NoEntries, ManualFits, Adding, countOf}
-use Rattle.rules.proofs.Refusals.{normal-refused-1, normal-refused-only, empty-refused-1, empty-refused-2, empty-refused-only, manual-refused-1, manual-refused-2, manual-refused-only, remove-refused-3, remove-refused-only, read-refused-3, step-refused-3}
-use Rattle.rules.proofs.Unchanged.{normal-unchanged, empty-unchanged, manual-unchanged, remove-unchanged}
-use Rattle.rules.proofs.Looking.{search-path, search-bound}
+use Rattle.rules.proofs.Refusals.{normal-refused-1, normal-refused-only, empty-refused-1, empty-refused-2, empty-refused-only, manual-refused-1, manual-refused-2, manual-refused-only, remove-refused-3, remove-refused-only, read-refused-3, read-refused-only, stand-refused-3, stand-refused-only, step-refused-3, step-refused-only, first-never, last-never, ahead-refused}
+use Rattle.rules.proofs.History.{good-fact, not-good}
+use Rattle.rules.proofs.Unchanged.{insert-unchanged, remove-unchanged}
+use Rattle.rules.proofs.Looking.{search-path, search-bound, search-never}
 use Rattle.holds.specs.Handles.{plain}
 use Rattle.holds.specs.Holds.{Holds, SoundStore}
 use Rattle.holds.proofs.Parts.{sound-of}
 use Rattle.holds.proofs.SameStore.{same-store}
-use Rattle.placed.specs.Meaning.{insertedMeans, sideMeans}
+use Rattle.placed.specs.Meaning.{insertedMeans, aheadMeans, sideMeans}
 use Rattle.taken.specs.Meaning.{removedMeans, readMeans}
-use Rattle.queue.specs.Promises.{Writes}
-use Rattle.queue.specs.Readings.{searchMeans, movedMeans}
-use Rattle.queue.specs.Promised.{InsertPromise, EmptyPromise, ManualPromise, RemovePromise, ReadPromise, SearchPromise, BackPromise, ForwardPromise}
+use Rattle.queue.specs.Promises.{enoughIn, Writes, Looks}
+use Rattle.queue.specs.Readings.{laidMeans, searchMeans, movedMeans}
+use Rattle.queue.specs.Promised.{LayOutPromise, InsertPromise, EmptyPromise, ManualPromise, RemovePromise, ReadPromise, SearchPromise, FirstPromise, LastPromise, AtPromise, BackPromise, ForwardPromise}
 use Rattle.queue.specs.declared.looking.Searched.{Searched}
 use Rattle.queue.specs.declared.cursor.Moved.{Moved}
+use Rattle.queue.proofs.Promising.{good-one}
 
 -- a sound store stays sound
 pub stays-sound : {A B : Type 0} {five : A} {model : List ℕ × A} {reads : A → B} {rule : Queue → B × Queue} {s t : List ℕ} {r : A}
@@ -55,7 +62,7 @@ module _ {s : List ℕ} {q : Queue} (k : Holds s q) where
     insert-refused-by n e = normal-refused-only (stored key) value q (sound-of k) n (sym (w .means q k .0) ∙ e)
 
     pub insert-stays : (n : ℕ) → insertedMeans r ≡ notInserted n → t ≡ s
-    insert-stays n e = nothing-changes w k (normal-unchanged (stored key) q value n (sym (w .means q k .0) ∙ e))
+    insert-stays n e = nothing-changes w k (insert-unchanged (stored key) q normal value n (sym (w .means q k .0) ∙ e))
 
   -- Empty: "2: Empty kind on a queue with entries"
   module _ (t : List ℕ) (key : ℤ) (value : ℕ) (r : I.Inserted) (w : EmptyPromise s t key value r) where
@@ -69,7 +76,7 @@ module _ {s : List ℕ} {q : Queue} (k : Holds s q) where
     empty-refused-by n e = empty-refused-only (stored key) value q n (sym (w .means q k .0) ∙ e)
 
     pub empty-stays : (n : ℕ) → insertedMeans r ≡ notInserted n → t ≡ s
-    empty-stays n e = nothing-changes w k (empty-unchanged (stored key) q value n (sym (w .means q k .0) ∙ e))
+    empty-stays n e = nothing-changes w k (insert-unchanged (stored key) q onEmpty value n (sym (w .means q k .0) ∙ e))
 
   -- Manual: "2: Manual with a handle that names no live entry, or a key that doesn't fit"
   module _ (t : List ℕ) (h : H.Handle) (side : D.Side) (key : ℤ) (value : ℕ) (r : I.Inserted) (w : ManualPromise s t h side key value r) where
@@ -83,7 +90,7 @@ module _ {s : List ℕ} {q : Queue} (k : Holds s q) where
     manual-refused-by n e = manual-refused-only (plain h) (sideMeans side) (stored key) value q (sound-of k) n (sym (w .means q k .0) ∙ e)
 
     pub manual-stays : (n : ℕ) → insertedMeans r ≡ notInserted n → t ≡ s
-    manual-stays n e = nothing-changes w k (manual-unchanged (stored key) q (plain h) (sideMeans side) value n (sym (w .means q k .0) ∙ e))
+    manual-stays n e = nothing-changes w k (insert-unchanged (stored key) q (manual (plain h) (sideMeans side)) value n (sym (w .means q k .0) ∙ e))
 
   -- "3: removal, reading or stepping with a handle that names no live entry"
   module _ (t : List ℕ) (h : H.Handle) (r : X.Removed) (w : RemovePromise s t h r) where
@@ -96,22 +103,73 @@ module _ {s : List ℕ} {q : Queue} (k : Holds s q) where
     pub remove-stays : (n : ℕ) → removedMeans r ≡ notRemoved n → t ≡ s
     remove-stays n e = nothing-changes w k (remove-unchanged (plain h) q n (sym (w .means q k .0) ∙ e))
 
-  pub read-refused : (h : H.Handle) (r : R.Reading) → ReadPromise s h r → (readMeans r ≡ notRead invalidPtr) ↔ (¬ Live (plain h) q)
-  read-refused h r w = rw (w .means q k) (read-refused-3 (plain h) q (sound-of k))
+  -- Reading, standing and stepping: 3 exactly so, and no other number
+  module _ (h : H.Handle) where
+    pub read-refused : (r : R.Reading) → ReadPromise s h r → (readMeans r ≡ notRead invalidPtr) ↔ (¬ Live (plain h) q)
+    read-refused r w = rw (w .means q k) (read-refused-3 (plain h) q (sound-of k))
 
-  pub back-refused : (h : H.Handle) (r : Moved) → BackPromise s h r → (movedMeans r ≡ notStepped invalidPtr) ↔ (¬ Live (plain h) q)
-  back-refused h r w = rw (w .means q k) (step-refused-3 (plain h) q (sound-of k) left)
+    pub read-refused-by : (r : R.Reading) → ReadPromise s h r → (n : ℕ) → readMeans r ≡ notRead n → n ≡ invalidPtr
+    read-refused-by r w n e = read-refused-only (plain h) q (sound-of k) n (sym (w .means q k) ∙ e)
 
-  pub forward-refused : (h : H.Handle) (r : Moved) → ForwardPromise s h r → (movedMeans r ≡ notStepped invalidPtr) ↔ (¬ Live (plain h) q)
-  forward-refused h r w = rw (w .means q k) (step-refused-3 (plain h) q (sound-of k) right)
+    pub at-refused : (r : Moved) → AtPromise s h r → (movedMeans r ≡ notStepped invalidPtr) ↔ (¬ Live (plain h) q)
+    at-refused r w = rw (w .means q k) (stand-refused-3 (plain h) q (sound-of k))
 
-  -- the count is the length of the stored path, and 2^p ≤ (n+1)²
-  module _ (key : ℤ) (r : Searched) (f : Found) (w : SearchPromise s key r) (e : searchMeans r ≡ some f) where
-    found : f ≡ searchFor (stored key) q
-    found = let p : some f ≡ some (searchFor (stored key) q) = sym e ∙ w .means q k in cc
+    pub at-refused-by : (r : Moved) → AtPromise s h r → (n : ℕ) → movedMeans r ≡ notStepped n → n ≡ invalidPtr
+    at-refused-by r w n e = stand-refused-only (plain h) q (sound-of k) n (sym (w .means q k) ∙ e)
 
-    pub search-count : countOf f ≡ length (path (stored key) (q .tree))
-    search-count = ap countOf found ∙ search-path (stored key) q
+    pub back-refused : (r : Moved) → BackPromise s h r → (movedMeans r ≡ notStepped invalidPtr) ↔ (¬ Live (plain h) q)
+    back-refused r w = rw (w .means q k) (step-refused-3 (plain h) q (sound-of k) left)
 
-    pub search-few : 2 ^ countOf f ≤ (length (entries q) + 1) * (length (entries q) + 1)
-    search-few = rw found (search-bound (stored key) q (sound-of k))
+    pub back-refused-by : (r : Moved) → BackPromise s h r → (n : ℕ) → movedMeans r ≡ notStepped n → n ≡ invalidPtr
+    back-refused-by r w n e = step-refused-only (plain h) q (sound-of k) left n (sym (w .means q k) ∙ e)
+
+    pub forward-refused : (r : Moved) → ForwardPromise s h r → (movedMeans r ≡ notStepped invalidPtr) ↔ (¬ Live (plain h) q)
+    forward-refused r w = rw (w .means q k) (step-refused-3 (plain h) q (sound-of k) right)
+
+    pub forward-refused-by : (r : Moved) → ForwardPromise s h r → (n : ℕ) → movedMeans r ≡ notStepped n → n ≡ invalidPtr
+    forward-refused-by r w n e = step-refused-only (plain h) q (sound-of k) right n (sym (w .means q k) ∙ e)
+
+  -- "An absent key, an empty queue and the end of the chain are answers, no refusals."
+  pub first-accepted : (r : Moved) → FirstPromise s r → (n : ℕ) → ¬ (movedMeans r ≡ notStepped n)
+  first-accepted r w n e = first-never q n (sym (w .means q k) ∙ e)
+
+  pub last-accepted : (r : Moved) → LastPromise s r → (n : ℕ) → ¬ (movedMeans r ≡ notStepped n)
+  last-accepted r w n e = last-never q n (sym (w .means q k) ∙ e)
+
+  -- A look-ahead of any kind foretells the refusal that the insertion would get, with any value, and no other
+  pub ahead-refused-by : {five model : A.Ahead} (kind : Kind) (key value : ℕ) (r : A.Ahead) → Looks five model aheadMeans (foresee kind key) s r
+      → (n : ℕ) → (aheadMeans r ≡ wouldRefuse n) ↔ (insert kind key value q .0 ≡ notInserted n)
+  ahead-refused-by kind key value r w n = rw (w .means q k) (ahead-refused kind key value q n)
+
+  -- the count is the length of the stored path, and 2^p ≤ (n+1)²; a search refuses nothing
+  module _ (key : ℤ) (r : Searched) (w : SearchPromise s key r) where
+    pub search-accepted : (n : ℕ) → ¬ (searchMeans r ≡ notFound n)
+    search-accepted n e = search-never (stored key) q (sound-of k) n (sym (w .means q k) ∙ e)
+
+    pub search-count : countOf (searchMeans r) ≡ length (path (stored key) (q .tree))
+    search-count = rw (w .means q k) (search-path (stored key) q)
+
+    pub search-few : 2 ^ countOf (searchMeans r) ≤ (length (entries q) + 1) * (length (entries q) + 1)
+    search-few = rw (w .means q k) (search-bound (stored key) q (sound-of k))
+
+-- Laying out, on every store, sound or not: 4 exactly where the layout is not good, and no other number
+module _ (s t : List ℕ) (capacity top : ℕ) (r : L.LaidOut) (w : LayOutPromise s t capacity top r) where
+  good-or-not : Good (length s) capacity top ⊎ (¬ Good (length s) capacity top)
+  good-or-not = go (Rules.good (enoughIn s) capacity top) refl
+    where
+      go : (b : Bool) → Rules.good (enoughIn s) capacity top ≡ b → Good (length s) capacity top ⊎ (¬ Good (length s) capacity top)
+      go true e = inl (good-one s capacity top .1 (good-fact (enoughIn s) capacity top e))
+      go false e = inr (λ g. not-good (enoughIn s) capacity top e (good-one s capacity top .0 g))
+
+  pub layout-refused : (laidMeans r ≡ notLaid badLayout) ↔ (¬ Good (length s) capacity top)
+  layout-refused = (λ e g. differ (sym (ap laidMeans (w .lays g .0)) ∙ e), λ n. ap laidMeans (w .refuses n .1))
+    where
+      differ : ¬ (laid ≡ notLaid badLayout)
+      differ e = let z : _≡_ {A = ℕ} 0 1 = cc in absurd (omega arith)
+
+  pub layout-refused-by : (n : ℕ) → laidMeans r ≡ notLaid n → n ≡ badLayout
+  layout-refused-by n e = go good-or-not
+    where
+      go : Good (length s) capacity top ⊎ (¬ Good (length s) capacity top) → n ≡ badLayout
+      go (inl g) = let f : laid ≡ notLaid n = sym (ap laidMeans (w .lays g .0)) ∙ e in absurd (let z : _≡_ {A = ℕ} 0 1 = cc in omega arith)
+      go (inr m) = let f : notLaid badLayout ≡ notLaid n = sym (ap laidMeans (w .refuses m .1)) ∙ e in cc

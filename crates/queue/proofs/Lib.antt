@@ -3,4 +3,5 @@ pub mod Looked
 pub mod Keeping
 pub mod Promising
 pub mod Single
+pub mod OneMeaning
 pub mod Follows

@@ -3,7 +3,6 @@ use Prim.Native.Nat.{ℕ}
 use mathlib.Core.Path.{_≡_, refl, _∙_, ap}
 use mathlib.Core.Bool.{true}
 use mathlib.Core.List.{List}
-use mathlib.Core.Option.{some}
 use lib.IntN.{ℤ}
 use Rattle.handle.specs.declared.Handle as H
 use Rattle.handle.specs.declared.Refusal.the-variants as R
@@ -19,8 +18,8 @@ use Rattle.wavl.specs.Search.{equalTo, nearest, emptyTree, answer, search}
 use Rattle.wavl.specs.Search as Search
 use Rattle.rules.specs.Queue.{Queue}
 use Rattle.rules.specs.Place.{Spot, nowhere, spot, spotOf}
-use Rattle.rules.specs.Answers.{Found, Stepped}
-use Rattle.rules.specs.Look.{searchFor, first, last, stepSpot, stepTo}
+use Rattle.rules.specs.Answers.{Found}
+use Rattle.rules.specs.Look.{searchFor, first, last, standSpot, standAt, stepSpot, stepTo}
 use Rattle.holds.specs.Ends.{number}
 use Rattle.holds.specs.Handles.{plain, isSpot}
 use Rattle.holds.specs.Holds.{Holds}
@@ -31,7 +30,7 @@ use Rattle.holds.proofs.Live.{live-is, live-iff}
 use Rattle.queue.specs.inner.Header.{onHeader}
 use Rattle.queue.specs.inner.Looking.{handleAt, asSearched, searched, searchCall}
 use Rattle.queue.specs.inner.Moving.{movedTo, cursorAt, startCall, standIn, standCall, stepIn, stepCall}
-use Rattle.queue.specs.Readings.{searchMeans, movedMeans, standsBy, standAt}
+use Rattle.queue.specs.Readings.{searchMeans, movedMeans}
 use Rattle.queue.specs.declared.cursor.Moved.the-variants as M
 
 -- a store that holds a queue has a header that passes
@@ -47,13 +46,13 @@ found-reads s cap (nearest e right n) = refl
 found-reads s cap emptyTree = refl
 
 -- a step reads the same
-step-reads : (p : C.Stepped) (y : Stepped) → stepMeans p ≡ some y → movedMeans (movedTo p) ≡ y
-step-reads (C.the-variants.At h) y e = cc
-step-reads C.the-variants.End y e = cc
-step-reads C.the-variants.NotSound y e = cc
+step-reads : (p : C.Stepped) → movedMeans (movedTo p) ≡ stepMeans p
+step-reads (C.the-variants.At h) = refl
+step-reads C.the-variants.End = refl
+step-reads C.the-variants.NotSound = refl
 
 module _ {s : List ℕ} {q : Queue} (k : Holds s q) where
-  pub search-means : (key : ℤ) → searchMeans (searchCall s key) ≡ some (searchFor (stored key) q)
+  pub search-means : (key : ℤ) → searchMeans (searchCall s key) ≡ searchFor (stored key) q
   unfolding searchCall searched
   search-means key =
       rw (on-held k (λ cap. searched s cap (stored key)) _, seek-is k (stored key), found-reads s (q .capacity) (answer (search (stored key) (q .tree))), ← seek-is k (stored key))
@@ -61,18 +60,18 @@ module _ {s : List ℕ} {q : Queue} (k : Holds s q) where
 
   pub first-is : movedMeans (startCall s 0) ≡ first q
   unfolding startCall
-  first-is = rw (on-held k (λ cap. movedTo (endOf s cap 0)) _) (step-reads (endOf s (q .capacity) 0) _ (first-means k))
+  first-is = rw (on-held k (λ cap. movedTo (endOf s cap 0)) _) (step-reads (endOf s (q .capacity) 0) ∙ first-means k)
 
   pub last-is : movedMeans (startCall s 1) ≡ last q
   unfolding startCall
-  last-is = rw (on-held k (λ cap. movedTo (endOf s cap 1)) _) (step-reads (endOf s (q .capacity) 1) _ (last-means k))
+  last-is = rw (on-held k (λ cap. movedTo (endOf s cap 1)) _) (step-reads (endOf s (q .capacity) 1) ∙ last-means k)
 
   module _ (h : H.Handle) where
     pub stand-is : movedMeans (standCall s h) ≡ standAt (plain h) q
-    unfolding standCall standIn
+    unfolding standCall standIn standAt standSpot
     stand-is = rw (on-held k (λ cap. standIn s cap h) _, live-is k h) (go (spotOf (plain h) q))
       where
-        go : (w : Spot) → movedMeans (ifte (isSpot w) (M.At (cursorAt h)) (M.Refused R.InvalidPtr)) ≡ standsBy (plain h) w
+        go : (w : Spot) → movedMeans (ifte (isSpot w) (M.At (cursorAt h)) (M.Refused R.InvalidPtr)) ≡ standSpot (plain h) w
         go nowhere = refl
         go (spot a x r b p) = refl
 
@@ -86,8 +85,7 @@ module _ {s : List ℕ} {q : Queue} (k : Holds s q) where
         go (spot a x r b p) e =
             let t : isLive s (q .capacity) h ≡ true = live-is k h ∙ ap isSpot e in
             let l = live-iff k h .0 t in
-            let m : stepMeans (stepFrom s (q .capacity) (h .slot .0) (number d)) ≡ some (stepTo d (plain h) q) = step-means k h (l .0) (l .1) (l .2) d in
-            step-reads (stepFrom s (q .capacity) (h .slot .0) (number d)) _ (m ∙ ap some (ap (stepSpot d) e))
+            step-reads (stepFrom s (q .capacity) (h .slot .0) (number d)) ∙ step-means k h (l .0) (l .1) (l .2) d ∙ ap (stepSpot d) e
 
     pub back-is : movedMeans (stepCall s h 0) ≡ stepTo left (plain h) q
     unfolding stepCall

@@ -1,12 +1,18 @@
 -- The public promises, call by call, from the equality with the model.
 use Prim.Native.Nat.{ℕ}
-use mathlib.Core.Path.{_≡_, _∙_, ap, subst⁻¹}
+use mathlib.Core.Path.{_≡_, refl, _∙_, ap, subst⁻¹}
+use mathlib.Core.Logic.{_↔_}
+use mathlib.Core.Bool.{Bool, true, false}
 use mathlib.Core.List.{List}
 use lib.IntN.{ℤ}
+use lib.ListN.{length}
+use borrow.Author.Tests.{le-leb, leb-true}
 use Rattle.handle.specs.declared.Handle.{Handle}
 use Rattle.handle.specs.declared.Side.{Side}
+use Rattle.handle.specs.declared.Refusal.the-variants.{BadLayout}
+use Rattle.arena.specs.Words.{need}
 use Rattle.arena.specs.Keys.{stored}
-use Rattle.arena.specs.Laying.{Fresh}
+use Rattle.arena.specs.Laying.{Good, Fresh}
 use Rattle.arena.specs.inner.Laying.{laid, layOut}
 use Rattle.arena.specs.declared.laying.LaidOut.{LaidOut}
 use Rattle.arena.specs.declared.laying.LaidOut.the-variants as L
@@ -22,9 +28,15 @@ use Rattle.remove.specs.inner.Remove.{removeBy, readBy}
 use Rattle.remove.specs.declared.removing.Removed.{Removed}
 use Rattle.remove.specs.declared.reading.Reading.{Reading}
 use Rattle.remove.proofs.Laws.{remove-kept}
+use Rattle.rules.specs.Queue.{Queue, fresh}
+use Rattle.rules.specs.LayOut as Rules
+use Rattle.rules.proofs.History.{good-fact, not-good, lay-done, lay-refused}
+use Rattle.holds.specs.Holds.{Holds}
 use Rattle.holds.proofs.FreshQueue.{fresh-holds}
 use Rattle.placed.proofs.Theorems.{normal-means, normal-ahead, empty-means, empty-ahead, manual-means, manual-ahead}
 use Rattle.taken.proofs.Means.{remove-means, read-means}
+use Rattle.queue.specs.Promises.{enoughIn}
+use Rattle.queue.specs.Readings.{laidMeans}
 use Rattle.queue.specs.Promised.{LayOutPromise, InsertPromise, EmptyPromise, ManualPromise, AheadPromise, AheadEmptyPromise, AheadManualPromise, RemovePromise, ReadPromise, SearchPromise, FirstPromise, LastPromise, AtPromise, BackPromise, ForwardPromise}
 use Rattle.queue.specs.inner.Looking.{searched, searchCall, readCall}
 use Rattle.queue.specs.inner.Moving.{movedTo, startCall, standIn, standCall, stepIn, stepCall}
@@ -107,13 +119,33 @@ remove-writes s t r h e =
     writes _ s (λ cap. removeBy s cap h) _ _ (λ cap p. let k = remove-kept s cap h in record { long = k .long; rest = k .rest })
     (λ q k. let m = remove-means k h in (m .answer, m .holds)) t r e
 
--- laying out
-pub lays : (s t : List ℕ) (r : LaidOut) (cap top : ℕ) → (t, r) ≡ layOut s cap top → LayOutPromise s t cap top r
-lays s t r cap top e = record {
-  does = e;
-  lays = λ g.
+-- laying out: the store's good layouts are document 01's
+pub good-one : (s : List ℕ) (cap top : ℕ) → Good (length s) cap top ↔ Rules.Good (enoughIn s) cap top
+good-one s cap top = (
+  λ g. record { range = g .range; long = le-leb (need cap) (length s) (g .room) },
+  λ g. record { range = g .range; room = leb-true (need cap) (length s) (g .long) },
+)
+
+module _ (s t : List ℕ) (r : LaidOut) (cap top : ℕ) (e : (t, r) ≡ layOut s cap top) where
+  laid-out : Good (length s) cap top → (r ≡ L.Done) × Fresh s t cap top × Holds t (fresh cap top)
+  laid-out g =
       let u : _≡_ {A = List ℕ × LaidOut} (t, r) (laid s cap top, L.Done) = e ∙ lays-out s cap top g in
       let f : Fresh s t cap top = subst⁻¹ (λ (x : List ℕ). Fresh s x cap top) (ap (λ x. x .0) u) (laid-is s cap top (g .room)) in
-      (ap (λ x. x .1) u, f, fresh-holds s t cap top f g);
-  refuses = λ n. let u = e ∙ refuses s cap top n in (ap (λ x. x .0) u, ap (λ x. x .1) u);
-}
+      (ap (λ x. x .1) u, f, fresh-holds s t cap top f g)
+
+  not-laid : ¬ Good (length s) cap top → (t ≡ s) × (r ≡ L.Refused BadLayout)
+  not-laid n = let u = e ∙ refuses s cap top n in (ap (λ x. x .0) u, ap (λ x. x .1) u)
+
+  laid-means : (b : Bool) → Rules.good (enoughIn s) cap top ≡ b → (q : Queue) → Holds s q
+      → (laidMeans r ≡ Rules.layOut (enoughIn s) cap top q .0) × Holds t (Rules.layOut (enoughIn s) cap top q .1)
+  laid-means true f q k =
+      let g = good-fact (enoughIn s) cap top f in
+      let m = laid-out (good-one s cap top .1 g) in
+      rw (lay-done (enoughIn s) cap top g q) (ap laidMeans (m .0), m .2)
+  laid-means false f q k =
+      let n = not-good (enoughIn s) cap top f in
+      let m = not-laid (λ g. n (good-one s cap top .0 g)) in
+      rw (lay-refused (enoughIn s) cap top n q) (ap laidMeans (m .1), subst⁻¹ (λ (x : List ℕ). Holds x q) (m .0) k)
+
+  pub lays : LayOutPromise s t cap top r
+  lays = record { does = e; lays = laid-out; refuses = not-laid; means = laid-means (Rules.good (enoughIn s) cap top) refl }

@@ -2,7 +2,6 @@
 use Prim.Native.Nat.{ℕ}
 use mathlib.Core.Path.{_≡_}
 use mathlib.Core.List.{List}
-use mathlib.Core.Option.{some}
 use lib.IntN.{ℤ}
 use lib.ListN.{length}
 use Rattle.handle.specs.declared.Handle.{Handle}
@@ -22,16 +21,17 @@ use Rattle.remove.specs.declared.removing.Removed.the-variants as X
 use Rattle.remove.specs.declared.reading.Reading.{Reading}
 use Rattle.remove.specs.declared.reading.Reading.the-variants as R
 use Rattle.wavl.specs.Tree.{left, right}
-use Rattle.rules.specs.Queue.{fresh}
-use Rattle.rules.specs.Insert.{insertNormal, insertEmpty, insertManual, aheadNormal, aheadEmpty, aheadManual}
+use Rattle.rules.specs.Queue.{Queue, fresh}
+use Rattle.rules.specs.LayOut as Rules
+use Rattle.rules.specs.Insert.{insertNormal, insertEmpty, insertManual, normal, onEmpty, manual, foresee}
 use Rattle.rules.specs.Remove.{remove}
-use Rattle.rules.specs.Look.{read, searchFor, first, last, stepTo}
+use Rattle.rules.specs.Look.{read, searchFor, first, last, standAt, stepTo}
 use Rattle.holds.specs.Handles.{plain}
 use Rattle.holds.specs.Holds.{Holds}
 use Rattle.placed.specs.Meaning.{insertedMeans, aheadMeans, sideMeans}
 use Rattle.taken.specs.Meaning.{removedMeans, readMeans}
-use Rattle.queue.specs.Promises.{Writes, Looks}
-use Rattle.queue.specs.Readings.{searchMeans, movedMeans, standAt}
+use Rattle.queue.specs.Promises.{enoughIn, Writes, Looks}
+use Rattle.queue.specs.Readings.{laidMeans, searchMeans, movedMeans}
 use Rattle.queue.specs.inner.Placing.{insertCall, emptyCall, manualCall, aheadCall, aheadEmptyCall, aheadManualCall}
 use Rattle.queue.specs.inner.Taking.{removeCall}
 use Rattle.queue.specs.inner.Looking.{searchCall, readCall}
@@ -47,6 +47,9 @@ pub record LayOutPromise (s t : List ℕ) (capacity top : ℕ) (r : LaidOut) : T
   pub does : (t, r) ≡ layOut s capacity top
   pub lays : Good (length s) capacity top → (r ≡ L.Done) × Fresh s t capacity top × Holds t (fresh capacity top)
   pub refuses : ¬ Good (length s) capacity top → (t ≡ s) × (r ≡ L.Refused BadLayout)
+  -- on a store that holds a queue: document 01's answer and queue, as of every other call
+  pub means : (q : Queue) → Holds s q
+      → (laidMeans r ≡ Rules.layOut (enoughIn s) capacity top q .0) × Holds t (Rules.layOut (enoughIn s) capacity top q .1)
 
 abbrev pub InsertPromise : List ℕ → List ℕ → ℤ → ℕ → Inserted → Type 0
 InsertPromise s t key value r = Writes (I.Refused NotSound) (insertCall s key value) insertedMeans (insertNormal (stored key) value) s t r
@@ -59,15 +62,15 @@ ManualPromise s t h side key value r =
     Writes (I.Refused NotSound) (manualCall s h side key value) insertedMeans (insertManual (plain h) (sideMeans side) (stored key) value) s t r
 
 abbrev pub AheadPromise : List ℕ → ℤ → Ahead → Type 0
-AheadPromise s key r = Looks (A.Refused NotSound) (aheadCall s key) aheadMeans (aheadNormal (stored key)) s r
+AheadPromise s key r = Looks (A.Refused NotSound) (aheadCall s key) aheadMeans (foresee normal (stored key)) s r
 
 -- the look-ahead of Empty serves any key
 abbrev pub AheadEmptyPromise : List ℕ → Ahead → Type 0
-AheadEmptyPromise s r = (key : ℤ) → Looks (A.Refused NotSound) (aheadEmptyCall s) aheadMeans (aheadEmpty (stored key)) s r
+AheadEmptyPromise s r = (key : ℤ) → Looks (A.Refused NotSound) (aheadEmptyCall s) aheadMeans (foresee onEmpty (stored key)) s r
 
 abbrev pub AheadManualPromise : List ℕ → Handle → Side → ℤ → Ahead → Type 0
 AheadManualPromise s h side key r =
-    Looks (A.Refused NotSound) (aheadManualCall s h side key) aheadMeans (aheadManual (plain h) (sideMeans side) (stored key)) s r
+    Looks (A.Refused NotSound) (aheadManualCall s h side key) aheadMeans (foresee (manual (plain h) (sideMeans side)) (stored key)) s r
 
 abbrev pub RemovePromise : List ℕ → List ℕ → Handle → Removed → Type 0
 RemovePromise s t h r = Writes (X.Refused NotSound) (removeCall s h) removedMeans (remove (plain h)) s t r
@@ -76,7 +79,7 @@ abbrev pub ReadPromise : List ℕ → Handle → Reading → Type 0
 ReadPromise s h r = Looks (R.Refused NotSound) (readCall s h) readMeans (read (plain h)) s r
 
 abbrev pub SearchPromise : List ℕ → ℤ → Searched → Type 0
-SearchPromise s key r = Looks (S.Refused NotSound) (searchCall s key) searchMeans (λ q. some (searchFor (stored key) q)) s r
+SearchPromise s key r = Looks (S.Refused NotSound) (searchCall s key) searchMeans (searchFor (stored key)) s r
 
 abbrev pub FirstPromise : List ℕ → Moved → Type 0
 FirstPromise s r = Looks (M.Refused NotSound) (startCall s 0) movedMeans first s r

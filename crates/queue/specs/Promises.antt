@@ -3,13 +3,19 @@
 -- A reader may rely on: no second answer and no second store meets a promise (proofs/Single.antt).
 use Prim.Native.Nat.{ℕ, _≤_}
 use mathlib.Core.Path.{_≡_}
+use mathlib.Core.Bool.{Bool}
 use mathlib.Core.List.{List}
+use lib.Dec.{leb}
 use lib.ListN.{length, getD}
 use Rattle.arena.specs.Words.{need}
 use Rattle.arena.specs.Header.{headerOf, Passing}
 use Rattle.arena.specs.declared.header.Header.the-variants.{Fails}
 use Rattle.rules.specs.Queue.{Queue}
 use Rattle.holds.specs.Holds.{Holds}
+
+-- whether a store is long enough for a capacity
+abbrev pub enoughIn : List ℕ → ℕ → Bool
+enoughIn s capacity = leb (need capacity) (length s)
 
 -- A call that may write: s is the store before, t the one after, r the answer. `five` is refusal 5 as an answer of its kind, `reads`
 -- gives an answer's numbers and values in document 01's terms, and `rule` is what document 01 says of a queue.

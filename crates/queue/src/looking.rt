@@ -25,7 +25,7 @@ use remove::reading::Reading;
 pub enum Searched {
     Equal(Handle, u64),
     Beside(Handle, Side, u64),
-    Empty,
+    Empty(u64),
     Refused(Refusal),
 }
 
@@ -56,7 +56,7 @@ fn search_in(s: &[u64], cap: u64, k: u64) -> Searched
             return Searched::Beside(h, Side::Greater, n);
         }
         Found::Empty => {
-            return Searched::Empty;
+            return Searched::Empty(0);
         }
         Found::NotSound => {
             return Searched::Refused(Refusal::NotSound);

@@ -44,7 +44,7 @@ module _ (enough : ℕ → Bool) (capacity top : ℕ) where
         long = a .1;
       }
 
-  not-good : good enough capacity top ≡ false → ¬ Good enough capacity top
+  pub not-good : good enough capacity top ≡ false → ¬ Good enough capacity top
   not-good e g = let f = good-yes g in absurd (let z : _≡_ {A = ℕ} 0 1 = cc in omega arith)
 
   lay-told : (b : Bool) → good enough capacity top ≡ b → (q : Queue) → LayAnswers enough capacity top (laidBy b capacity top q .0)

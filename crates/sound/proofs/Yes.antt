@@ -20,7 +20,7 @@ use Rattle.wavl.specs.Tree.{Tree, inorder}
 use Rattle.wavl.specs.Ranks.{Ranked}
 use Rattle.wavl.proofs.Lists.{all-both, all-of, in-left, in-right}
 use Rattle.wavl.proofs.Rule.{ranks→ranked}
-use Rattle.rules.specs.Queue.{Queue}
+use Rattle.rules.specs.Queue.{Queue, queueOf}
 use Rattle.rules.specs.Sound.{freeSlots, usedSlots, Under}
 use Rattle.holds.specs.Links.{TreeWords}
 use Rattle.holds.specs.Chain.{ChainWords}
@@ -111,7 +111,7 @@ module _ (s : List ℕ) (cap : ℕ) (p : Passed s cap) where
   tree = p .walk .seen .tree
 
   abbrev queue : Queue
-  queue = record { capacity = cap; top = top; tree = tree; free = freeList s cap high }
+  queue = queueOf cap top tree (freeList s cap high)
 
   few : cap ≤ noSlot
   few = few-of s cap (p .passes)

@@ -16,7 +16,7 @@ use Rattle.wavl.specs.Lists.{All, In, Differ, Once}
 use Rattle.wavl.specs.Entry.{Entry, slots}
 use Rattle.wavl.specs.Tree.{Tree, inorder}
 use Rattle.wavl.proofs.Lists.{all-in, in-left, in-right, in-cases, pairwise-left, slots-append}
-use Rattle.rules.specs.Queue.{Handle, Queue, entries}
+use Rattle.rules.specs.Queue.{Handle, Queue, entries, changed}
 use Rattle.rules.specs.Remove.{freed}
 use Rattle.rules.specs.Sound.{freeSlots, usedSlots, Under}
 use Rattle.rules.proofs.Lists.{all-at, all-drop, in-put, in-drop, once-differ, slots-put}
@@ -58,7 +58,7 @@ module _ (s u : List ℕ) (q : Queue) (d : Separate q) (l : List Entry) (x : Ent
   free = q .free
 
   abbrev after : {g top : ℕ} → Dec (g < top) → Queue
-  after e = record { capacity = q .capacity; top = q .top; tree = t; free = freed e (x .slot) (q .free) }
+  after e = changed t (freed e (x .slot) (q .free)) q
 
   low-all : All (Under cap) (slots l ++ (i ∷ slots m))
   low-all = rw (old, slots-put l x m) at (live-low d)

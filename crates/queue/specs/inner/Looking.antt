@@ -35,7 +35,7 @@ sideFor d = ifte (eqb d 0) Less Greater
 abbrev pub asSearched : List ℕ → ℕ → Found → Searched
 asSearched s cap (F.Equal p n) = S.Equal (handleAt s cap p) n
 asSearched s cap (F.Beside p d n) = S.Beside (handleAt s cap p) (sideFor d) n
-asSearched s cap F.Empty = S.Empty
+asSearched s cap F.Empty = S.Empty 0
 asSearched s cap F.NotSound = S.Refused R.NotSound
 
 unfoldable pub searched : List ℕ → ℕ → ℕ → Searched
