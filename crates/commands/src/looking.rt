@@ -53,7 +53,7 @@ pub fn find(s: &[u64; 10256], t: &[u64; 17409], key: Key) -> Answer {
             table::number_of(t, h.slot.0),
             count,
         ),
-        Searched::Empty => Answer::Empty,
+        Searched::Empty(_) => Answer::Empty,
         Searched::Refused(r) => Answer::Refused(r),
     }
 }

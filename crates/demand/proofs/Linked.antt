@@ -93,8 +93,10 @@ enoughOf n capacity = leb (need capacity) n
 
 pub follows : (n : ℕ) → Follows (List ℕ) onStore (enoughOf n) (Keeps n)
 follows n = record {
-  same-answer = λ c s q o k. rw (k .long) at (one-call s q (k .holds) c .answers);
-  same-queue = λ c s q o k. let m = one-call s q (k .holds) c in record { holds = rw (k .long) at (m .holds); long = m .long ∙ k .long };
+  same-answer = λ c s q o k. subst (λ (m : ℕ). onStore c s .0 ≡ answer (enoughOf m) c q .0) (k .long) (one-call s q (k .holds) c .answers);
+  same-queue = λ c s q o k.
+      let m = one-call s q (k .holds) c in
+      record { holds = subst (λ (m : ℕ). Holds (onStore c s .1) (answer (enoughOf m) c q .1)) (k .long) (m .holds); long = m .long ∙ k .long };
 }
 
 -- from any store that holds a queue: the book is begun with the entries and free slots found there

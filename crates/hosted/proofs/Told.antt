@@ -72,9 +72,9 @@ moved-at r c x e p = rw e p
 pub moved-refused : (r : M.Moved) (n : Refusal) (x : Told) → r ≡ M.the-variants.Refused n → x ≡ refusedTold n → x ≡ movedTold r
 moved-refused r n x e p = rw e p
 
--- the answers without values
-pub searched-empty : (r : Q.Searched) (a : List ℕ) → r ≡ Q.the-variants.Empty → a ≡ row 0 0 0 → _≡_ {A = Told} (19, a) (searchedTold r)
-searched-empty r a e p = rw e (rw p)
+-- the answers without a handle
+pub searched-empty : (r : Q.Searched) (n : ℕ) (a : List ℕ) → r ≡ Q.the-variants.Empty n → a ≡ row 0 0 n → _≡_ {A = Told} (19, a) (searchedTold r)
+searched-empty r n a e p = rw e (rw p)
 
 pub moved-end : (r : M.Moved) (a : List ℕ) → r ≡ M.the-variants.End → a ≡ row 0 0 0 → _≡_ {A = Told} (17, a) (movedTold r)
 moved-end r a e p = rw e (rw p)

@@ -135,8 +135,8 @@ pub fn searched(a: &mut [u64; 4], r: Searched) -> u64
             let code = side_code(side);
             return handle(a, code, h, n);
         }
-        Searched::Empty => {
-            put_row(a, 0, 0, 0);
+        Searched::Empty(n) => {
+            put_row(a, 0, 0, n);
             return 19;
         }
         Searched::Refused(why) => {

@@ -2,7 +2,7 @@
 -- A reader may rely on this: each answer carries the values that document 01 names, and a refusal its number alone.
 use Prim.Native.Nat.{ℕ}
 use Rattle.handle.specs.Numbers.{refusalNumber}
-use Rattle.handle.specs.declared.Refusal.the-variants.{NotWithinCapacity, FailedOrdRequirement, InvalidPtr, BadLayout, NotSound, BadTime}
+use Rattle.handle.specs.declared.Refusal.the-variants.{NotWithinCapacity, FailedOrdRequirement, InvalidPtr, BadLayout, NotSound}
 use Rattle.rules.specs.Queue.{Handle}
 
 -- document 01's table of refusals; the numbers stand in crate `handle`
@@ -20,9 +20,6 @@ badLayout = refusalNumber BadLayout
 
 abbrev pub notSound : ℕ
 notSound = refusalNumber NotSound
-
-abbrev pub badTime : ℕ
-badTime = refusalNumber BadTime
 
 -- "The side": of an entry, on which a key lies, or where Manual places
 pub data Where : Type 0 where

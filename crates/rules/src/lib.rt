@@ -1,1 +1,1 @@
-// The queue of document 01, and due times, without a store: definitions in specs/, theorems in proofs/. No code.
+// The queue of document 01, without a store: definitions in specs/, theorems in proofs/. No code.

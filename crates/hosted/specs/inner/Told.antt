@@ -81,7 +81,7 @@ sideCode S.Greater = 18
 abbrev pub searchedTold : Q.Searched → Told
 searchedTold (Q.the-variants.Equal h n) = handleTold 16 h n
 searchedTold (Q.the-variants.Beside h side n) = handleTold (sideCode side) h n
-searchedTold Q.the-variants.Empty = (19, row 0 0 0)
+searchedTold (Q.the-variants.Empty n) = (19, row 0 0 n)
 searchedTold (Q.the-variants.Refused r) = refusedTold r
 
 abbrev pub movedTold : M.Moved → Told

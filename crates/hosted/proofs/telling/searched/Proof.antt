@@ -24,8 +24,8 @@ handle-requires-2 c κs = search needs
 returns-2 : tie.Need-returns-2
 returns-2 c = search (searched-equal, searched-beside, searched-refused, searched-empty)
 
-enum-told : tie.Need-enum-told
-enum-told c = search needs
+enum-known-r-3 : tie.Need-enum-known-r-3
+enum-known-r-3 c = search needs
 
 put-row-requires : tie.Need-put-row-requires
 put-row-requires c κs = search needs
@@ -33,8 +33,8 @@ put-row-requires c κs = search needs
 returns-3 : tie.Need-returns-3
 returns-3 c = search (searched-equal, searched-beside, searched-refused, searched-empty)
 
-enum-known-r-3 : tie.Need-enum-known-r-3
-enum-known-r-3 c = search needs
+enum-known-r-4 : tie.Need-enum-known-r-4
+enum-known-r-4 c = search needs
 
 refused-requires : tie.Need-refused-requires
 refused-requires c κs = search needs
@@ -53,9 +53,9 @@ searched-spec =
     side-code-requires
     handle-requires-2
     returns-2
-    enum-told
+    enum-known-r-3
     put-row-requires
     returns-3
-    enum-known-r-3
+    enum-known-r-4
     refused-requires
     returns-4)

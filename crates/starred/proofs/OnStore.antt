@@ -1,0 +1,35 @@
+-- The starred runs hold of a laid out store as well: the table's theorem, carried over through what the store follows.
+-- A reader may rely on starred-on-the-store, for every store that is long enough for the run's capacity.
+use mathlib.Core.Path.{_≡_, ap, subst, _∙_}
+use mathlib.Core.List.{List}
+use Prim.Native.Nat.{ℕ}
+use lib.ListN.{length}
+use Rattle.wavl.specs.Lists.{All}
+use Rattle.wavl.proofs.Lists.{all-map}
+use Rattle.arena.specs.Laying.{Good}
+use Rattle.arena.specs.inner.Laying.{layOut}
+use Rattle.rules.specs.Queue.{Queue}
+use Rattle.rules.specs.Calls.{History, runBy}
+use Rattle.holds.specs.Holds.{Holds}
+use Rattle.queue.specs.Promises.{enoughIn}
+use Rattle.demand.specs.Store.{onStore}
+use Rattle.demand.proofs.Linked.{run-on-the-store}
+use Rattle.starred.specs.Starred.{Run, calls, leaves, Comes, runs}
+use Rattle.starred.proofs.Starred.{starred}
+
+-- on the store s, laid out with the run's capacity and top: the calls have the run's answers, and the store holds the queue that it leaves
+pub record OnStore (s : List ℕ) (r : Run) (good : Good (length s) (r .capacity) (r .top)) : Type 0 where
+  pub answers : runBy onStore (calls r) (layOut s (r .capacity) (r .top) .0) .0 ≡ r .steps
+  pub holds : Holds (runBy onStore (calls r) (layOut s (r .capacity) (r .top) .0) .1) (leaves r)
+
+comes-on-store : (s : List ℕ) (r : Run) → Comes r → (g : Good (length s) (r .capacity) (r .top)) → OnStore s r g
+comes-on-store s r c g =
+    let o = run-on-the-store s (r .capacity) (r .top) g (calls r) in
+    let e = c .0 (enoughIn s) in
+    record {
+      answers = o .0 ∙ ap (λ (x : History × Queue). x .0) e;
+      holds = subst (λ (x : Queue). Holds (runBy onStore (calls r) (layOut s (r .capacity) (r .top) .0) .1) x) (ap (λ (x : History × Queue). x .1) e) (o .1 .holds);
+    }
+
+pub starred-on-the-store : (s : List ℕ) → All (λ r. (g : Good (length s) (r .capacity) (r .top)) → OnStore s r g) runs
+starred-on-the-store s = all-map _ _ (λ r c. comes-on-store s r c) runs (starred .queue)
