@@ -5,7 +5,8 @@ set -eu
 cd "$(dirname "$0")/oracle"
 (cd src/given && sha256sum --check --strict --quiet ../../given.sha256)
 if [ $# -gt 0 ]; then
-    for f in ord/insert.rs ord/remove.rs ord/find.rs chain/links.rs fundamental/errors.rs; do
+    for f in ord/insert.rs ord/remove.rs ord/find.rs ord/simple_ord_arena.rs chain/links.rs \
+        chain/impl_chain_arena_trait.rs fundamental/errors.rs; do
         cmp "$1/$f" "src/given/$(basename "$f")"
     done
     echo "the given files are those of the sources"

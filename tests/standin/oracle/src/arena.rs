@@ -4,60 +4,49 @@
 //! to a top; at the top the slot is retired; the slot freed last is taken first, and a fresh store
 //! gives 0, 1, 2 ..; the capacity is fixed.
 
-use core::marker::PhantomData;
+use core::num::NonZeroUsize;
 
+use crate::errors::NotWithinCapacityError;
 use crate::fundamental::{InvalidationResult, Ptr, PtrGen, PtrInx};
+use crate::stack::NonZeroInxGenericStack;
 
-/// The given files are generic over a backing; here it is only a name.
-pub trait ArenaBacking {}
+pub use crate::left_out::{ArenaTrait, Canonicalize};
 
-/// The one backing: a fixed number of slots.
-pub struct Fixed;
-impl ArenaBacking for Fixed {}
+/// The given files are generic over a backing, which names the kind of stack that holds slots.
+pub trait ArenaBacking {
+    type Stack<T>: NonZeroInxGenericStack<T>;
+}
 
-#[derive(Debug, Clone, Copy, PartialEq, Eq)]
-pub enum State<T> {
-    Live(T),
-    Free,
+pub enum ArenaSlot<P: Ptr, T> {
+    /// The slot that is free after this one; its own number at the end of the list.
+    Free(P::Inx),
+    Allocated(P::Gen, T),
+    /// Added by document 01.
     Retired,
 }
 
-pub struct ArenaSlot<P: Ptr, T> {
-    pub generation: P::Gen,
-    pub state: State<T>,
+pub struct Arena<P: Ptr, T, B: ArenaBacking> {
+    pub(crate) m: B::Stack<ArenaSlot<P, T>>,
+    pub(crate) len: usize,
+    pub(crate) freelist_root: Option<P::Inx>,
+    /// By slot: its generation; of a free slot, the one that its next entry gets.
+    pub(crate) generations: Vec<P::Gen>,
+    pub(crate) top: P::Gen,
 }
 
-pub struct Arena<P: Ptr, T, B: ArenaBacking> {
-    pub(crate) slots: Vec<ArenaSlot<P, T>>,
-    /// A stack: the last one is taken first.
-    pub(crate) free: Vec<P::Inx>,
-    pub(crate) top: P::Gen,
-    pub(crate) len: usize,
-    backing: PhantomData<B>,
+/// A stack counts from 1, slots from 0.
+pub fn from_checked_raw<P: Ptr>(inx: NonZeroUsize) -> P::Inx {
+    P::Inx::from_usize(inx.get() - 1)
+}
+
+pub fn from_checked_ptr<P: Ptr>(inx: P::Inx) -> NonZeroUsize {
+    NonZeroUsize::MIN.saturating_add(P::Inx::to_usize(inx))
 }
 
 /// Steps over the handles of live entries; the caller passes the arena anew each time.
-pub trait Advancer {
-    type Collection;
+pub trait Advancer<C> {
     type Item;
-    fn advance(&mut self, collection: &Self::Collection) -> Option<Self::Item>;
-}
-
-/// What the given files ask of an arena, a chain and a queue alike.
-pub trait ArenaTrait<P: Ptr, T> {
-    fn len(&self) -> usize;
-    fn get_inx(&self, p: P::Inx) -> Option<(P::Gen, &T)>;
-
-    fn is_empty(&self) -> bool {
-        self.len() == 0
-    }
-    fn get(&self, p: P) -> Option<&T> {
-        let (generation, t) = self.get_inx(p.inx())?;
-        (generation == p.generation()).then_some(t)
-    }
-    fn contains(&self, p: P) -> bool {
-        self.get(p).is_some()
-    }
+    fn advance(&mut self, collection: &C) -> Option<Self::Item>;
 }
 
 /// A place for one insertion, found and not yet used. Dropping it changes nothing.
@@ -66,23 +55,98 @@ pub trait ArenaInsertEntryTrait<'a, P: Ptr, T> {
     fn insert(self, t: T);
 }
 
-impl<P: Ptr, T, B: ArenaBacking> Arena<P, T, B> {
-    pub fn laid_out(capacity: usize, top: P::Gen) -> Self {
-        let fresh = |_| ArenaSlot { generation: P::Gen::one(), state: State::Free };
-        Arena {
-            slots: (0..capacity).map(fresh).collect(),
-            free: (0..capacity).rev().map(P::Inx::from_usize).collect(),
-            top,
-            len: 0,
-            backing: PhantomData,
+pub trait ArenaInsertTrait<P: Ptr, T> {
+    type InsertionEntry<'a>: ArenaInsertEntryTrait<'a, P, T>
+    where
+        Self: 'a;
+    fn entry_insert_within_capacity(
+        &mut self,
+    ) -> Result<Self::InsertionEntry<'_>, NotWithinCapacityError>;
+}
+
+pub struct ArenaInsertEntry<'a, P: Ptr, T, B: ArenaBacking> {
+    this: &'a mut Arena<P, T, B>,
+    p: P,
+}
+
+impl<'a, P: Ptr, T, B: ArenaBacking> ArenaInsertEntryTrait<'a, P, T>
+    for ArenaInsertEntry<'a, P, T, B>
+{
+    fn ptr(&self) -> P {
+        self.p
+    }
+
+    fn insert(self, t: T) {
+        let (this, p) = (self.this, self.p);
+        let slot = this.m.get_mut(from_checked_ptr::<P>(p.inx())).expect("a slot");
+        let taken = core::mem::replace(slot, ArenaSlot::Allocated(p.generation(), t));
+        let ArenaSlot::Free(after) = taken else { panic!("a free slot") };
+        this.freelist_root = (after != p.inx()).then_some(after);
+        this.len += 1;
+    }
+}
+
+impl<P: Ptr, T, B: ArenaBacking> ArenaInsertTrait<P, T> for Arena<P, T, B> {
+    type InsertionEntry<'a>
+        = ArenaInsertEntry<'a, P, T, B>
+    where
+        Self: 'a;
+
+    fn entry_insert_within_capacity(
+        &mut self,
+    ) -> Result<Self::InsertionEntry<'_>, NotWithinCapacityError> {
+        let inx = self.freelist_root.ok_or(NotWithinCapacityError)?;
+        let p = P::_from_raw(inx, self.generations[P::Inx::to_usize(inx)]);
+        Ok(ArenaInsertEntry { this: self, p })
+    }
+}
+
+impl<P: Ptr, T, B: ArenaBacking> ArenaTrait<P, T> for Arena<P, T, B> {
+    type PtrAdvancer = ();
+
+    fn len(&self) -> usize {
+        self.len
+    }
+
+    fn get_inx(&self, p: P::Inx) -> Option<(P::Gen, &T)> {
+        match self.m.get(from_checked_ptr::<P>(p))? {
+            ArenaSlot::Allocated(generation, t) => Some((*generation, t)),
+            _ => None,
         }
     }
 
-    pub fn get_inx(&self, p: P::Inx) -> Option<(P::Gen, &T)> {
-        let slot = self.slots.get(P::Inx::to_usize(p))?;
-        match &slot.state {
-            State::Live(t) => Some((slot.generation, t)),
-            _ => None,
+    fn remove_inx(&mut self, p: P::Inx) -> InvalidationResult<(P::Gen, T)> {
+        let (at, top, root) = (P::Inx::to_usize(p), self.top, self.freelist_root);
+        let Some(slot) = self.m.get_mut(from_checked_ptr::<P>(p)) else {
+            return InvalidationResult::InvalidPtr;
+        };
+        let ArenaSlot::Allocated(generation, _) = slot else {
+            return InvalidationResult::InvalidPtr;
+        };
+        let retires = *generation == top;
+        let after = if retires { ArenaSlot::Retired } else { ArenaSlot::Free(root.unwrap_or(p)) };
+        let ArenaSlot::Allocated(ended, t) = core::mem::replace(slot, after) else {
+            unreachable!()
+        };
+        self.len -= 1;
+        if retires {
+            return InvalidationResult::GenerationOverflow((ended, t));
+        }
+        self.generations[at] = P::Gen::up(ended);
+        self.freelist_root = Some(p);
+        InvalidationResult::Success((ended, t))
+    }
+}
+
+impl<P: Ptr, T, B: ArenaBacking> Arena<P, T, B> {
+    pub fn laid_out(capacity: usize, top: P::Gen) -> Self {
+        let after = |i: usize| P::Inx::from_usize((i + 1).min(capacity - 1));
+        Arena {
+            m: B::Stack::of((0..capacity).map(|i| ArenaSlot::Free(after(i))).collect()),
+            len: 0,
+            freelist_root: Some(P::Inx::from_usize(0)),
+            generations: vec![P::Gen::one(); capacity],
+            top,
         }
     }
 
@@ -91,50 +155,33 @@ impl<P: Ptr, T, B: ArenaBacking> Arena<P, T, B> {
     }
 
     pub fn get_inx_mut_unwrap(&mut self, p: P::Inx) -> &mut T {
-        match &mut self.slots[P::Inx::to_usize(p)].state {
-            State::Live(t) => t,
+        match self.m.get_mut(from_checked_ptr::<P>(p)) {
+            Some(ArenaSlot::Allocated(_, t)) => t,
             _ => panic!("a link leads to a live slot"),
         }
     }
 
-    /// The handle that the next new entry will get.
-    pub fn next_free(&self) -> Option<P> {
-        let inx = *self.free.last()?;
-        Some(P::_from_raw(inx, self.slots[P::Inx::to_usize(inx)].generation))
-    }
-
-    pub fn take(&mut self, t: T) -> Option<P> {
-        let p = self.next_free()?;
-        self.free.pop();
-        self.slots[P::Inx::to_usize(p.inx())].state = State::Live(t);
-        self.len += 1;
-        Some(p)
-    }
-
-    pub fn remove_inx(&mut self, p: P::Inx) -> InvalidationResult<(P::Gen, T)> {
-        if self.get_inx(p).is_none() {
-            return InvalidationResult::InvalidPtr;
-        }
-        let top = self.top;
-        let slot = &mut self.slots[P::Inx::to_usize(p)];
-        let ended = slot.generation;
-        let retires = ended == top;
-        let after = if retires { State::Retired } else { State::Free };
-        let State::Live(t) = core::mem::replace(&mut slot.state, after) else { unreachable!() };
-        self.len -= 1;
-        if retires {
-            return InvalidationResult::GenerationOverflow((ended, t));
-        }
-        slot.generation = P::Gen::up(ended);
-        self.free.push(p);
-        InvalidationResult::Success((ended, t))
-    }
-
     /// The first live slot at `from` or after it.
     pub fn live_from(&self, from: usize) -> Option<P> {
-        (from..self.slots.len()).find_map(|i| {
+        (from..self.m.len()).find_map(|i| {
             let inx = P::Inx::from_usize(i);
             self.get_inx(inx).map(|(generation, _)| P::_from_raw(inx, generation))
         })
+    }
+
+    /// The free list as it stands, given up after as many steps as there are slots and one more.
+    pub fn free_list(&self) -> Vec<P::Inx> {
+        let mut met = Vec::new();
+        let mut at = self.freelist_root;
+        while let Some(inx) = at
+            && met.len() <= self.m.len()
+        {
+            met.push(inx);
+            at = match self.m.get(from_checked_ptr::<P>(inx)) {
+                Some(ArenaSlot::Free(after)) if *after != inx => Some(*after),
+                _ => None,
+            };
+        }
+        met
     }
 }

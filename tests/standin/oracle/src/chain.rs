@@ -1,57 +1,51 @@
-//! Ours, over the given links.rs. One chain through the live slots of the arena.
+//! Ours. What the given chain/impl_chain_arena_trait.rs and the tree files name of a chain, from
+//! files of the published crate that were not given: the type, the kinds of insertion, the trait
+//! with its provided methods, the advancers, and a check of prev and next.
 //!
-//! The bodies of `insert` and `remove_inx_link_no_gen` follow impl_chain_arena_trait.rs, which was
-//! given too, cut down to the three kinds that the given tree files use.
+//! Linking in, unlinking and reading a link are the given file's bodies.
 
 use crate::LinkNoGen;
 use crate::arena::{Advancer, Arena, ArenaBacking, ArenaInsertEntryTrait, ArenaTrait};
 use crate::errors::ChainInsertionError;
-use crate::fundamental::{InvalidationResult, Ptr, PtrInx};
+use crate::fundamental::{InvalidationOption, InvalidationResult, Ptr, PtrInx};
 
 pub struct ChainArena<P: Ptr, T, B: ArenaBacking> {
     pub(crate) a: Arena<P, LinkNoGen<P, T>, B>,
 }
 
+/// Where a new link goes. The tree files use Disconnected, PrevToInx and NextToInx.
 #[derive(Debug, Clone, Copy, PartialEq, Eq)]
 pub enum LinkInsertKind<P: Ptr> {
     Disconnected,
+    SingleLinkCyclic,
+    ChainStart(P),
+    ChainStartInx(P::Inx),
+    ChainEnd(P),
+    ChainEndInx(P::Inx),
+    PrevTo(P),
+    PrevToInx(P::Inx),
+    NextTo(P),
+    NextToInx(P::Inx),
+    AtInterlink { next_to: P, prev_to: P },
+    AtInterlinkInx { next_to: P::Inx, prev_to: P::Inx },
+    Bridge { end: P, start: P },
+    BridgeInx { end: P::Inx, start: P::Inx },
+}
+
+/// The same, tested: what it names is live.
+#[derive(Debug, Clone, Copy, PartialEq, Eq)]
+pub enum LinkInsertInxKind<P: Ptr> {
+    Disconnected,
+    SingleLinkCyclic,
+    ChainStartInx(P::Inx),
+    ChainEndInx(P::Inx),
     PrevToInx(P::Inx),
     NextToInx(P::Inx),
+    InternalConnect { next_to: P::Inx, prev_to: P::Inx },
 }
 
-pub struct ChainArenaInsertEntry<'a, P: Ptr, T, B: ArenaBacking> {
-    a: &'a mut ChainArena<P, T, B>,
-    p: P,
-    kind: LinkInsertKind<P>,
-}
-
-impl<'a, P: Ptr, T, B: ArenaBacking> ArenaInsertEntryTrait<'a, P, T>
-    for ChainArenaInsertEntry<'a, P, T, B>
-{
-    fn ptr(&self) -> P {
-        self.p
-    }
-
-    fn insert(self, t: T) {
-        let a = &mut self.a.a;
-        let (prev, next) = match self.kind {
-            LinkInsertKind::Disconnected => (None, None),
-            LinkInsertKind::PrevToInx(next) => (a.get_inx_unwrap(next).prev(), Some(next)),
-            LinkInsertKind::NextToInx(prev) => (Some(prev), a.get_inx_unwrap(prev).next()),
-        };
-        let p = a.take(LinkNoGen::new((prev, next), t)).expect("a slot was free");
-        assert!(p == self.p, "the slot taken is the one that was announced");
-        if let Some(prev) = prev {
-            a.get_inx_mut_unwrap(prev).prev_next.1 = Some(p.inx());
-        }
-        if let Some(next) = next {
-            a.get_inx_mut_unwrap(next).prev_next.0 = Some(p.inx());
-        }
-    }
-}
-
-pub trait ChainArenaTrait<P: Ptr, T> {
-    type ChainPtrAdvancer: Advancer<Collection = Self, Item = P>;
+pub trait ChainArenaTrait<P: Ptr, T>: ArenaTrait<P, T> {
+    type ChainPtrAdvancer: Advancer<Self, Item = P>;
     type InsertionEntry<'a>: ArenaInsertEntryTrait<'a, P, T>
     where
         Self: 'a;
@@ -62,10 +56,32 @@ pub trait ChainArenaTrait<P: Ptr, T> {
         &mut self,
         kind: LinkInsertKind<P>,
     ) -> Result<Self::InsertionEntry<'_>, ChainInsertionError>;
+    fn connect(&mut self, p_prev: P, p_next: P) -> Option<()>;
+    fn break_prev(&mut self, p: P) -> Option<()>;
+    fn break_next(&mut self, p: P) -> Option<()>;
+    fn exchange_next(&mut self, p0: P, p1: P) -> Option<()>;
     fn remove_inx_link_no_gen(
         &mut self,
         p: P::Inx,
     ) -> InvalidationResult<(P::Gen, LinkNoGen<P, T>)>;
+    fn drain_chain(
+        &mut self,
+        p_init: P,
+    ) -> Option<impl Iterator<Item = InvalidationOption<(P, LinkNoGen<P, T>)>>>;
+    fn compress_canonical(&mut self, reset_generation: bool) -> InvalidationOption<()>;
+
+    fn get_link_no_gen(&self, p: P) -> Option<&LinkNoGen<P, T>> {
+        let (generation, link) = self.get_inx_link_no_gen(p.inx())?;
+        (generation == p.generation()).then_some(link)
+    }
+
+    fn remove_link_no_gen(&mut self, p: P) -> InvalidationResult<LinkNoGen<P, T>> {
+        if self.contains(p) {
+            self.remove_inx_link_no_gen(p.inx()).map(|(_, link)| link)
+        } else {
+            InvalidationResult::InvalidPtr
+        }
+    }
 
     fn insert_within_capacity(
         &mut self,
@@ -94,16 +110,19 @@ pub trait ChainArenaTrait<P: Ptr, T> {
     }
 }
 
-/// Steps by slot number.
-pub struct PtrAdvancer<P: Ptr, T, B: ArenaBacking> {
-    next: usize,
-    kind: core::marker::PhantomData<(P, T, B)>,
+pub mod chain_iterators {
+    pub use super::{ChainPtrAdvancer, PtrAdvancer};
 }
 
-impl<P: Ptr, T, B: ArenaBacking> Advancer for PtrAdvancer<P, T, B> {
-    type Collection = ChainArena<P, T, B>;
+/// Steps by slot number.
+pub struct PtrAdvancer<P: Ptr> {
+    next: usize,
+    kind: core::marker::PhantomData<P>,
+}
+
+impl<P: Ptr, T, B: ArenaBacking> Advancer<ChainArena<P, T, B>> for PtrAdvancer<P> {
     type Item = P;
-    fn advance(&mut self, collection: &Self::Collection) -> Option<P> {
+    fn advance(&mut self, collection: &ChainArena<P, T, B>) -> Option<P> {
         let p = collection.a.live_from(self.next)?;
         self.next = P::Inx::to_usize(p.inx()) + 1;
         Some(p)
@@ -112,83 +131,19 @@ impl<P: Ptr, T, B: ArenaBacking> Advancer for PtrAdvancer<P, T, B> {
 
 /// Steps along the chain. It gives up after as many steps as there are entries, so that a broken
 /// chain is a wrong count to `_check_invariants` and no endless loop.
-pub struct ChainPtrAdvancer<P: Ptr, T, B: ArenaBacking> {
+pub struct ChainPtrAdvancer<P: Ptr> {
     at: Option<P::Inx>,
     left: usize,
-    kind: core::marker::PhantomData<(T, B)>,
 }
 
-impl<P: Ptr, T, B: ArenaBacking> Advancer for ChainPtrAdvancer<P, T, B> {
-    type Collection = ChainArena<P, T, B>;
+impl<P: Ptr, T, B: ArenaBacking> Advancer<ChainArena<P, T, B>> for ChainPtrAdvancer<P> {
     type Item = P;
-    fn advance(&mut self, collection: &Self::Collection) -> Option<P> {
+    fn advance(&mut self, collection: &ChainArena<P, T, B>) -> Option<P> {
         let inx = self.at?;
         self.left = self.left.checked_sub(1)?;
-        let (generation, link) = collection.a.get_inx(inx)?;
+        let (generation, link) = collection.get_inx_link_no_gen(inx)?;
         self.at = link.next();
         Some(P::_from_raw(inx, generation))
-    }
-}
-
-impl<P: Ptr, T, B: ArenaBacking> ArenaTrait<P, T> for ChainArena<P, T, B> {
-    fn len(&self) -> usize {
-        self.a.len
-    }
-    fn get_inx(&self, p: P::Inx) -> Option<(P::Gen, &T)> {
-        self.a.get_inx(p).map(|(generation, link)| (generation, &link.t))
-    }
-}
-
-impl<P: Ptr, T, B: ArenaBacking> ChainArenaTrait<P, T> for ChainArena<P, T, B> {
-    type ChainPtrAdvancer = ChainPtrAdvancer<P, T, B>;
-    type InsertionEntry<'a>
-        = ChainArenaInsertEntry<'a, P, T, B>
-    where
-        Self: 'a;
-
-    fn get_inx_link_no_gen(&self, p: P::Inx) -> Option<(P::Gen, &LinkNoGen<P, T>)> {
-        self.a.get_inx(p)
-    }
-
-    fn advancer_chain(&self, p_init: P) -> Option<Self::ChainPtrAdvancer> {
-        self.contains(p_init).then(|| ChainPtrAdvancer {
-            at: Some(p_init.inx()),
-            left: self.len() + 1,
-            kind: core::marker::PhantomData,
-        })
-    }
-
-    fn entry_insert_within_capacity(
-        &mut self,
-        kind: LinkInsertKind<P>,
-    ) -> Result<Self::InsertionEntry<'_>, ChainInsertionError> {
-        if let LinkInsertKind::PrevToInx(p) | LinkInsertKind::NextToInx(p) = kind
-            && self.a.get_inx(p).is_none()
-        {
-            return Err(ChainInsertionError::FailedLinkRequirement);
-        }
-        let p = self.a.next_free().ok_or(ChainInsertionError::NotWithinCapacity)?;
-        Ok(ChainArenaInsertEntry { a: self, p, kind })
-    }
-
-    fn remove_inx_link_no_gen(
-        &mut self,
-        p: P::Inx,
-    ) -> InvalidationResult<(P::Gen, LinkNoGen<P, T>)> {
-        let res = self.a.remove_inx(p);
-        let (InvalidationResult::Success((_, link))
-        | InvalidationResult::GenerationOverflow((_, link))) = &res
-        else {
-            return InvalidationResult::InvalidPtr;
-        };
-        let (prev, next) = link.prev_next();
-        if let Some(prev) = prev {
-            self.a.get_inx_mut_unwrap(prev).prev_next.1 = next;
-        }
-        if let Some(next) = next {
-            self.a.get_inx_mut_unwrap(next).prev_next.0 = prev;
-        }
-        res
     }
 }
 
@@ -201,8 +156,13 @@ impl<P: Ptr, T, B: ArenaBacking> ChainArena<P, T, B> {
         &mut self.a.get_inx_mut_unwrap(p).t
     }
 
-    pub fn advancer(&self) -> PtrAdvancer<P, T, B> {
+    pub fn advancer(&self) -> PtrAdvancer<P> {
         PtrAdvancer { next: 0, kind: core::marker::PhantomData }
+    }
+
+    pub(crate) fn internal_advancer_chain(&self, p_init: P) -> Option<ChainPtrAdvancer<P>> {
+        self.contains(p_init)
+            .then(|| ChainPtrAdvancer { at: Some(p_init.inx()), left: self.len() + 1 })
     }
 
     /// Called by the given `_check_invariants`: prev and next agree, both ways.

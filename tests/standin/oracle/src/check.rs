@@ -3,7 +3,7 @@
 //! The given check covers rule 1, rule 2 and most of rule 3 and lets equal keys pass; what is left
 //! of document 01's list is done here.
 
-use crate::arena::State;
+use crate::arena::ArenaSlot;
 use crate::fundamental::{PtrInx, Slot};
 use crate::ord::Tree;
 use crate::queue::Queue;
@@ -25,7 +25,7 @@ fn ends(queue: &Queue) -> Result<(), String> {
     let Some(last) = queue.last() else {
         return Ok(());
     };
-    let link = queue.tree.a.a.get_inx_unwrap(last.slot);
+    let (_, link) = queue.tree.get_inx_node(last.slot).expect("a live slot");
     match link.next() {
         None => Ok(()),
         Some(_) => Err("rule 3: last has a next".to_string()),
@@ -66,20 +66,27 @@ fn ranks(queue: &Queue) -> Result<(), String> {
 /// Rules 5 and 6.
 fn slots(queue: &Queue) -> Result<(), String> {
     let arena = &queue.tree.a.a;
-    let mut met = vec![0u32; arena.slots.len()];
-    for p in &arena.free {
-        met[Slot::to_usize(*p)] += 1;
+    let mut met = vec![0u32; arena.m.len()];
+    for p in arena.free_list() {
+        met[Slot::to_usize(p)] += 1;
     }
-    for (i, slot) in arena.slots.iter().enumerate() {
-        let want = u32::from(matches!(slot.state, State::Free));
+    for (i, slot) in arena.m.iter().enumerate() {
+        let want = u32::from(matches!(slot, ArenaSlot::Free(_)));
         if met[i] != want {
             return Err(format!("rule 5: slot {i} is {} times in the free list", met[i]));
         }
-        if slot.generation.0 < 1 || slot.generation > arena.top {
-            return Err(format!("rule 6: slot {i} has generation {}", slot.generation.0));
+        let generation = arena.generations[i];
+        if generation.0 < 1 || generation > arena.top {
+            return Err(format!("rule 6: slot {i} has generation {}", generation.0));
         }
-        if matches!(slot.state, State::Retired) && slot.generation != arena.top {
-            return Err(format!("rule 6: slot {i} is retired below the top"));
+        match slot {
+            ArenaSlot::Retired if generation != arena.top => {
+                return Err(format!("rule 6: slot {i} is retired below the top"));
+            }
+            ArenaSlot::Allocated(own, _) if *own != generation => {
+                return Err(format!("slot {i} holds an entry of generation {}", own.0));
+            }
+            _ => {}
         }
     }
     Ok(())

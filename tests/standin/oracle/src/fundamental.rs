@@ -14,6 +14,8 @@ pub trait PtrInx: Debug + Hash + Copy + Ord + 'static {
 /// A generation. Document 01: the first is 1, where the Rust starts at 2.
 pub trait PtrGen: Debug + Hash + Copy + Ord + 'static {
     fn one() -> Self;
+    /// Named by what document 01 leaves out.
+    fn two() -> Self;
     /// Only called below the top generation, so it never wraps, unlike the Rust's.
     fn up(this: Self) -> Self;
 }
@@ -34,6 +36,41 @@ pub enum InvalidationResult<T> {
     Success(T),
     GenerationOverflow(T),
     InvalidPtr,
+}
+
+impl<T> InvalidationResult<T> {
+    pub fn map<U, F: FnOnce(T) -> U>(self, f: F) -> InvalidationResult<U> {
+        match self {
+            Self::Success(t) => InvalidationResult::Success(f(t)),
+            Self::GenerationOverflow(t) => InvalidationResult::GenerationOverflow(f(t)),
+            Self::InvalidPtr => InvalidationResult::InvalidPtr,
+        }
+    }
+
+    /// What was removed, and whether document 01's note stands with it.
+    pub fn overflowing(self) -> (Option<T>, bool) {
+        match self {
+            Self::Success(t) => (Some(t), false),
+            Self::GenerationOverflow(t) => (Some(t), true),
+            Self::InvalidPtr => (None, false),
+        }
+    }
+}
+
+/// The same without a refusal; only what document 01 leaves out answers it.
+#[derive(Debug, Clone, Copy, PartialEq, Eq)]
+pub enum InvalidationOption<T> {
+    Success(T),
+    GenerationOverflow(T),
+}
+
+impl<T> InvalidationOption<T> {
+    pub fn map<U, F: FnOnce(T) -> U>(self, f: F) -> InvalidationOption<U> {
+        match self {
+            Self::Success(t) => InvalidationOption::Success(f(t)),
+            Self::GenerationOverflow(t) => InvalidationOption::GenerationOverflow(f(t)),
+        }
+    }
 }
 
 #[derive(Debug, Clone, Copy, PartialEq, Eq, PartialOrd, Ord, Hash)]
@@ -66,6 +103,9 @@ impl PtrInx for Slot {
 impl PtrGen for Generation {
     fn one() -> Self {
         Generation(1)
+    }
+    fn two() -> Self {
+        Generation(2)
     }
     fn up(this: Self) -> Self {
         Generation(this.0 + 1)

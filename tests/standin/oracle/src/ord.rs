@@ -1,25 +1,10 @@
-//! Ours. The node, the queue's fields and the item, with the names and fields of
-//! simple_ord_arena.rs; the given files hold the bodies that work on them.
+//! Ours. The item and the one instance in use, around the queue of the given simple_ord_arena.rs.
 
-use crate::arena::{Arena, ArenaBacking, ArenaTrait, Fixed};
-use crate::chain::ChainArena;
+use crate::arena::{Arena, ArenaBacking, ArenaTrait};
+use crate::chain::{ChainArena, PtrAdvancer};
 use crate::fundamental::{Handle, InvalidationResult, Ptr, PtrInx};
-
-pub struct SimpleOrdArenaNode<P: Ptr, T> {
-    pub t: T,
-    pub p_back: Option<P::Inx>,
-    pub p_tree0: Option<P::Inx>,
-    pub p_tree1: Option<P::Inx>,
-    pub rank: u8,
-}
-
-/// As in the Rust: root, first and last mean nothing while the queue is empty.
-pub struct SimpleOrdArena<P: Ptr, T, B: ArenaBacking> {
-    pub(crate) root: P::Inx,
-    pub(crate) first: P::Inx,
-    pub(crate) last: P::Inx,
-    pub(crate) a: ChainArena<P, SimpleOrdArenaNode<P, T>, B>,
-}
+use crate::simple_ord_arena::SimpleOrdArena;
+use crate::stack::Fixed;
 
 pub trait SimpleOrdItem {
     type Key<'a>: Ord;
@@ -57,9 +42,7 @@ impl<P: Ptr, T, B: ArenaBacking> SimpleOrdArena<P, T, B> {
             a: ChainArena { a: Arena::laid_out(capacity, top) },
         }
     }
-}
 
-impl<P: Ptr, T, B: ArenaBacking> SimpleOrdArena<P, T, B> {
     /// root, first and last as they stand, stale ones too. Only the tests of findings look.
     pub fn ends_as_stored(&self) -> [P::Inx; 3] {
         [self.root, self.first, self.last]
@@ -73,10 +56,22 @@ impl<P: Ptr, T, B: ArenaBacking> SimpleOrdArena<P, T, B> {
             InvalidationResult::InvalidPtr => None,
         }
     }
+
+    /// Named by the given comparisons and the given Debug.
+    pub fn iter_ordered(&self) -> impl Iterator<Item = (P, &T)> {
+        let at = |inx| {
+            let (generation, link) = self.get_inx_link_no_gen(inx)?;
+            Some((P::_from_raw(inx, generation), link))
+        };
+        let first = self.first().and_then(|p| at(p.inx()));
+        let all = core::iter::successors(first, move |(_, link)| link.next().and_then(at));
+        all.map(|(p, link)| (p, link.t))
+    }
 }
 
 /// The given files ask a queue only for its length and for an entry by slot.
 impl<P: Ptr, T, B: ArenaBacking> ArenaTrait<P, T> for SimpleOrdArena<P, T, B> {
+    type PtrAdvancer = PtrAdvancer<P>;
     fn len(&self) -> usize {
         self.a.len()
     }

@@ -3,8 +3,7 @@
 
 use core::cmp::Ordering;
 
-use crate::arena::{ArenaTrait, State};
-use crate::chain::ChainArenaTrait;
+use crate::arena::{ArenaSlot, ArenaTrait};
 use crate::errors::OrdInsertionError;
 use crate::fundamental::{Generation, Handle, InvalidationResult, Ptr, Slot};
 use crate::ord::{Strike, Tree};
@@ -88,7 +87,8 @@ impl Queue {
     /// Added: strictly between the target's key and its chain neighbour's on that side, or equal.
     fn fits(&self, at: Handle, direction: Ordering, key: i64) -> bool {
         let key_of = |p: Slot| self.tree.a.get_inx_unwrap(p).t.key;
-        let (prev, next) = self.tree.a.a.get_inx_unwrap(at.inx()).prev_next();
+        let (_, link) = self.tree.get_inx_link_no_gen(at.inx()).expect("a live handle");
+        let (prev, next) = link.prev_next();
         let target = key_of(at.inx());
         key.cmp(&target) == direction
             && match direction {
@@ -153,28 +153,25 @@ impl Queue {
         Some(Found { at, side, count })
     }
 
-    /// The neighbour along the chain: Greater steps on, Less steps back; None is End.
+    /// The neighbour along the chain, by the given `get_inx_link_no_gen`, `prev` and `next`: Greater
+    /// steps on, Less steps back; None is End. Added: by handle, refused 3.
     pub fn step(&self, from: Option<Handle>, to: Ordering) -> Result<Option<Handle>, Refusal> {
         let at = self.live(from).ok_or(Refusal::InvalidPtr)?;
-        let (prev, next) = self.tree.a.a.get_inx_unwrap(at.inx()).prev_next();
-        let slot = if to == Ordering::Less { prev } else { next };
+        let (_, link) = self.tree.get_inx_link_no_gen(at.inx()).expect("a live handle");
+        let slot = if to == Ordering::Less { link.prev() } else { link.next() };
         Ok(slot.map(|slot| self.handle(slot)))
     }
 
     pub fn first(&self) -> Option<Handle> {
-        self.end(self.tree.first)
+        self.tree.first()
     }
 
     pub fn last(&self) -> Option<Handle> {
-        self.end(self.tree.last)
+        self.tree.last()
     }
 
     pub fn root(&self) -> Option<Handle> {
-        self.end(self.tree.root)
-    }
-
-    fn end(&self, slot: Slot) -> Option<Handle> {
-        (!self.tree.is_empty()).then(|| self.handle(slot))
+        (!self.tree.is_empty()).then(|| self.handle(self.tree.root))
     }
 
     pub fn len(&self) -> usize {
@@ -187,12 +184,12 @@ impl Queue {
 
     /// live, free, retired
     pub fn counts(&self) -> (usize, usize, usize) {
-        let slots = &self.tree.a.a.slots;
-        let of = |want: fn(&State<_>) -> bool| slots.iter().filter(|s| want(&s.state)).count();
+        let slots = &self.tree.a.a.m;
+        let of = |want: fn(&ArenaSlot<_, _>) -> bool| slots.iter().filter(|s| want(s)).count();
         (
-            of(|s| matches!(s, State::Live(_))),
-            of(|s| matches!(s, State::Free)),
-            of(|s| matches!(s, State::Retired)),
+            of(|s| matches!(s, ArenaSlot::Allocated(..))),
+            of(|s| matches!(s, ArenaSlot::Free(_))),
+            of(|s| matches!(s, ArenaSlot::Retired)),
         )
     }
 
@@ -202,7 +199,7 @@ impl Queue {
         let mut at = self.first();
         while let Some(handle) = at {
             assert!(all.len() < self.len(), "the chain is longer than the queue");
-            let link = self.tree.a.a.get_inx_unwrap(handle.inx());
+            let (_, link) = self.tree.get_inx_node(handle.inx()).expect("a live slot");
             let node = &link.t;
             all.push(Shown {
                 at: handle,
@@ -220,7 +217,7 @@ impl Queue {
     }
 
     fn handle(&self, slot: Slot) -> Handle {
-        let (generation, _) = self.tree.a.get_inx_link_no_gen(slot).expect("a live slot");
+        let (generation, _) = self.tree.get_inx_node(slot).expect("a live slot");
         Handle::_from_raw(slot, generation)
     }
 }

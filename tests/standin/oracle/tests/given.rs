@@ -12,6 +12,6 @@ fn sums_of_the_given_files() {
         .output()
         .expect("sha256sum runs");
     assert!(out.status.success(), "{}", String::from_utf8_lossy(&out.stdout));
-    assert_eq!(String::from_utf8_lossy(&out.stdout).matches(": OK").count(), 5);
-    assert_eq!(std::fs::read_dir(here).unwrap().count(), 5, "nothing of ours stands there");
+    assert_eq!(String::from_utf8_lossy(&out.stdout).matches(": OK").count(), 7);
+    assert_eq!(std::fs::read_dir(here).unwrap().count(), 7, "nothing of ours stands there");
 }
