@@ -1,3 +1,4 @@
+pub mod Budget
 pub mod Paths
 pub mod Places
 pub mod KeyWords

@@ -13,6 +13,9 @@ pub const FIELDS: u64 = 10;
 // How many words a store of the most slots takes.
 pub const STORE: usize = (HEAD_WORDS + LIMIT * FIELDS) as usize;
 
+// The budget of every path in the tree, down or up: no rank of a sound store reaches it.
+pub const BUDGET: u64 = 64;
+
 // The fields of a slot.
 pub const KEY: u64 = 0;
 

@@ -7,7 +7,8 @@ use native.Mathlib.Decide.{decLt, ℕ-discrete}
 use borrow.Author.Tests.{lt-ltb, le-ltb, eq-eqb, ne-eqb, le-leb, lt-leb}
 use Rattle.handle.specs.Numbers.{noSlot}
 use Rattle.arena.specs.Words.{field, head, KEY, LEFT, ROOT}
-use Rattle.find.specs.inner.Seeking.{budget, sideOf, seekFrom, seekAt, seekModel, FoundIn}
+use Rattle.arena.specs.inner.Budget.{budget}
+use Rattle.find.specs.inner.Seeking.{sideOf, seekFrom, seekAt, seekModel, FoundIn}
 use Rattle.find.specs.declared.Found.the-variants.{Equal, Beside, Empty, NotSound}
 
 -- left if less, right if greater

@@ -5,20 +5,15 @@ use mathlib.Core.List.{List}
 use native.Mathlib.Omega.{arith}
 use Rattle.handle.specs.Numbers.{noSlot}
 use Rattle.arena.specs.Words.{field, head, KEY, LEFT, ROOT}
-use Rattle.find.specs.inner.Seeking.{sideOf, budget, seekFrom, seekModel}
+use Rattle.arena.specs.inner.Budget.{budget}
+use Rattle.arena.proofs.Budget.{left, none-left}
+use Rattle.find.specs.inner.Seeking.{sideOf, seekFrom, seekModel}
 use Rattle.find.proofs.Laws.{seek-empty, seek-some, seek-outside, seek-equal, seek-beside, seek-down}
 use Rattle.find.specs.declared.Found.{Found}
 use Rattle.find.specs.declared.Found.the-variants.{Equal, Beside, Empty, NotSound}
 
--- n nodes were looked at: one more may be, or none
-left : (n : ℕ) → n < budget → budget - n ≡ suc (budget - (n + 1))
-left n h = omega arith
-
-done : (n : ℕ) → budget ≤ n → budget - n ≡ 0
-done n h = omega arith
-
 pub start : (s : List ℕ) (cap k root : ℕ) → root ≡ head s ROOT → (root ≡ noSlot → ⊥) → seekFrom (budget - 0) s cap k root 0 ≡ seekModel s cap k
-start s cap k root e h = sym (seek-some s cap k root (sym e) h)
+start s cap k root e h = let z : budget - 0 ≡ budget = omega arith in rw z (sym (seek-some s cap k root (sym e) h))
 
 pub none : (s : List ℕ) (cap k root : ℕ) → root ≡ head s ROOT → root ≡ noSlot → Empty ≡ seekModel s cap k
 none s cap k root e h = sym (seek-empty s cap k root (sym e) h)
@@ -26,7 +21,7 @@ none s cap k root e h = sym (seek-empty s cap k root (sym e) h)
 module _ (s : List ℕ) (cap k p n : ℕ) (r : Found) (inv : seekFrom (budget - n) s cap k p n ≡ r) where
   pub spent : budget ≤ n → NotSound ≡ r
   unfolding seekFrom
-  spent h = rw (done n h) at inv
+  spent h = rw (none-left n h) at inv
 
   module _ (h : n < budget) where
     turn : seekFrom (suc (budget - (n + 1))) s cap k p n ≡ r

@@ -1,11 +1,12 @@
 // The search: from the root, left if less and right if greater, to an equal key or to a missing child.
 // It leaves its loop with the answer in hand: node, side, and how many nodes were looked at.
-// From the Rust: find_similar_key of ord/find.rs. Two things differ: the count, and that the loop ends on any words, after 64 nodes.
+// From the Rust: find_similar_key of ord/find.rs. Two things differ: the count, and that the loop ends on any words, after BUDGET nodes.
 ghost use mathlib.Core.Path.{_≡_};
 ghost use Prim.Native.Nat.{_<_, _≤_};
 ghost use Rattle.arena.specs.Words.{Room};
 ghost use Rattle.find.specs.inner.Seeking.{sideOf, seekModel, FoundIn};
 use arena::words;
+use arena::words::BUDGET;
 use arena::words::KEY;
 use arena::words::LEFT;
 use arena::words::ROOT;
@@ -20,9 +21,6 @@ pub enum Found {
     Empty,
     NotSound,
 }
-
-// The most nodes that a search looks at: no sound tree is as high.
-pub const BUDGET: u64 = 64;
 
 // The side of a node's key on which k lies: 0 less, 1 not less. It stands alone so that the search has no branch on the side, which
 // no processor foresees: a side is added to LEFT.

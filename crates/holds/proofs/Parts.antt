@@ -1,6 +1,6 @@
 -- Holds taken apart into a sound queue and words, and put together again; and the bounds that follow.
 -- A reader may rely on: a proof of a call shows Sound by crate `rules` and Words by the writes, and ends with holds-of.
-use Prim.Native.Nat.{ℕ, _+_, _≤_}
+use Prim.Native.Nat.{ℕ, _+_, _≤_, _<_}
 use mathlib.Core.Path.{_≡_, refl}
 use mathlib.Core.List.{List}
 use native.Mathlib.Omega.{arith}
@@ -8,11 +8,14 @@ use lib.ListN.{length, length-append}
 use Rattle.handle.specs.Numbers.{noSlot, limit}
 use Rattle.handle.proofs.Limits.{limit-fits}
 use Rattle.arena.specs.Words.{Long}
+use Rattle.arena.specs.inner.Budget.{budget}
+use Rattle.arena.proofs.Budget.{budget-deep}
 use Rattle.wavl.specs.Lists.{All, In, Differ, Once}
 use Rattle.wavl.specs.Entry.{slots}
-use Rattle.wavl.specs.Tree.{size}
+use Rattle.wavl.specs.Tree.{Tree, rank, size}
+use Rattle.wavl.specs.Ranks.{Ranks}
 use Rattle.wavl.proofs.Lists.{all-left, all-right, pairwise-across}
-use Rattle.wavl.proofs.Size.{size-length}
+use Rattle.wavl.proofs.Size.{size-length, rank-le-31}
 use Rattle.rules.specs.Queue.{Queue, entries}
 use Rattle.rules.specs.Sound.{freeSlots, usedSlots, Under, Sound}
 use Rattle.holds.specs.Holds.{Holds, Words}
@@ -97,6 +100,10 @@ module _ {q : Queue} (d : Separate q) where
   -- a free slot is no live one
   pub free-not-live : (j : ℕ) → In j (freeSlots (q .free)) → ¬ (In j (slots (entries q)))
   free-not-live j f l = pairwise-across Differ (slots (entries q)) (freeSlots (q .free)) (d .apart) j j l f refl
+
+-- no tree with so few entries reaches the budget
+pub under-budget : (t : Tree) → Ranks t → size t ≤ noSlot → rank t < budget
+under-budget t x h = let a = rank-le-31 t x h in let b = budget-deep in omega arith
 
 pub size-few : {q : Queue} → Sound q → size (q .tree) ≤ noSlot
 size-few {q} d =

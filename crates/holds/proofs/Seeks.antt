@@ -7,8 +7,9 @@ use native.Mathlib.Omega.{arith}
 use lib.ListN.{length}
 use Rattle.handle.specs.Numbers.{noSlot}
 use Rattle.arena.specs.Words.{field, head, KEY, LEFT, ROOT}
+use Rattle.arena.specs.inner.Budget.{budget}
 use Rattle.find.specs.declared.Found as F
-use Rattle.find.specs.inner.Seeking.{budget, sideOf, seekFrom, seekModel}
+use Rattle.find.specs.inner.Seeking.{sideOf, seekFrom, seekModel}
 use Rattle.find.proofs.Laws.{side-less, side-greater, seek-empty, seek-root, seek-equal, seek-beside, seek-down}
 use Rattle.wavl.specs.Entry.{Entry}
 use Rattle.wavl.specs.Tree.{Side, left, right, Tree, tip, fork, rank, inorder}
@@ -18,7 +19,6 @@ use Rattle.wavl.specs.Search.{keyRound, find, search, Found, equalTo, nearest, 
 use Rattle.wavl.proofs.Lists.{all-left, all-right}
 use Rattle.wavl.proofs.Order.{IsFork}
 use Rattle.wavl.proofs.Rule.{ranked→ranks}
-use Rattle.wavl.proofs.Size.{rank-le-31}
 use Rattle.wavl.proofs.Rounds.{key-cases}
 use Rattle.wavl.proofs.Reply.{Answers, answer-right}
 use Rattle.rules.specs.Queue.{Queue}
@@ -28,7 +28,7 @@ use Rattle.holds.specs.Links.{Links}
 use Rattle.holds.specs.Entries.{EntryWords, AllEntries}
 use Rattle.holds.specs.Holds.{Holds}
 use Rattle.holds.specs.inner.Meanings.{inSlots, sideNo, foundMeans}
-use Rattle.holds.proofs.Parts.{sound-of, words-of, few-slots, size-few}
+use Rattle.holds.proofs.Parts.{sound-of, words-of, few-slots, size-few, under-budget}
 use Rattle.holds.proofs.Live.{live-entry}
 
 module _ (s : List ℕ) (cap k : ℕ) (few : cap ≤ noSlot) where
@@ -82,7 +82,7 @@ module _ (s : List ℕ) (cap k : ℕ) (few : cap ≤ noSlot) where
 pub seek-is : {s : List ℕ} {q : Queue} → Holds s q → (k : ℕ) → seekModel s (q .capacity) k ≡ inSlots (answer (search k (q .tree)))
 seek-is {s} {q} h k =
     let x = ranked→ranks (q .tree) (h .rule-2) in
-    let r = rank-le-31 (q .tree) x (size-few (sound-of h)) in
+    let r = under-budget (q .tree) x (size-few (sound-of h)) in
     seek-root-tree s (q .capacity) k (few-slots (words-of h)) (q .tree) (h .rule-1 .root) (h .rule-1 .links) (h .live) x (omega arith)
 
 -- the answer that crate `rules` gives: the slot's generation is the entry's

@@ -3,18 +3,19 @@ use mathlib.Core.Path.{_≡_}
 use mathlib.Core.Bool.{Bool, true, false}
 use mathlib.Core.List.{List}
 use Prim.Native.Nat.{ℕ, _+_, _-_, _<_, _≤_}
+use Rattle.arena.specs.inner.Budget.{budget}
 use Rattle.tree.specs.declared.Climbed.{Climbed}
 use Rattle.tree.specs.declared.Climbed.the-variants.{Done, Up, NotSound}
-use Rattle.tree.proofs.Climb.{left, none-left}
+use Rattle.arena.proofs.Budget.{left, none-left}
 use Rattle.lower.specs.inner.Climb.{climbTurn, climbFrom}
 
-module _ (s : List ℕ) (cap p1 d n : ℕ) (r : List ℕ × Bool) (inv : climbFrom (64 - n) s cap p1 d ≡ r) where
-  pub spent : 64 ≤ n → (s, false) ≡ r
+module _ (s : List ℕ) (cap p1 d n : ℕ) (r : List ℕ × Bool) (inv : climbFrom (budget - n) s cap p1 d ≡ r) where
+  pub spent : budget ≤ n → (s, false) ≡ r
   unfolding climbFrom
   spent h = rw (none-left n h) at inv
 
-  module _ (h : n < 64) (x : List ℕ) (a : Climbed) (at : _≡_ {A = List ℕ × Climbed} (x, a) (climbTurn s cap p1 d)) where
-    pub again : (p2 d2 : ℕ) → a ≡ Up p2 d2 → climbFrom (64 - (n + 1)) x cap p2 d2 ≡ r
+  module _ (h : n < budget) (x : List ℕ) (a : Climbed) (at : _≡_ {A = List ℕ × Climbed} (x, a) (climbTurn s cap p1 d)) where
+    pub again : (p2 d2 : ℕ) → a ≡ Up p2 d2 → climbFrom (budget - (n + 1)) x cap p2 d2 ≡ r
     unfolding climbFrom
     again p2 d2 e = simp (left n h, ← at, e) at inv
 

@@ -4,6 +4,7 @@ use mathlib.Core.Path.{_≡_}
 use mathlib.Core.List.{List}
 use borrow.Author.Tests.{lt-ltb, le-ltb, le-leb, lt-leb, eq-eqb, ne-eqb}
 use Rattle.arena.specs.Words.{field, put, LEFT, RIGHT, RANK, BACK}
+use Rattle.arena.specs.inner.Budget.{budget}
 use Rattle.tree.specs.inner.Links.{rankOf, sideOf, withBack, withNode, relinked, spreadWith}
 use Rattle.tree.specs.declared.Climbed.{Climbed}
 use Rattle.tree.specs.declared.Climbed.the-variants.{Done, Up}
@@ -48,11 +49,11 @@ pub past-reads : (s : List ℕ) (cap d p0 p1 s0 rank0 rank1 rs : ℕ) (x : List 
 unfolding climbPast
 past-reads s cap d p0 p1 s0 rank0 rank1 rs x a b ra rb p2 e f g h i q = rw (← e, ← f, ← g, ← h, ← i) q
 
-pub past-both : (s : List ℕ) (cap d p0 p1 s0 rank0 rank1 rs : ℕ) (x : List ℕ × Climbed) (a b ra rb p2 : ℕ) → ra < 64 → rb < 64 → (rb + 1 ≡ rs → ⊥) → ra + 2 ≡ rs
+pub past-both : (s : List ℕ) (cap d p0 p1 s0 rank0 rank1 rs : ℕ) (x : List ℕ × Climbed) (a b ra rb p2 : ℕ) → ra < budget → rb < budget → (rb + 1 ≡ rs → ⊥) → ra + 2 ≡ rs
     → x ≡ lowerBoth s cap p1 s0 rank0 → x ≡ climbPastWith s cap d p0 p1 s0 rank0 rank1 rs a b ra rb p2
 unfolding climbPastWith
 past-both s cap d p0 p1 s0 rank0 rank1 rs x a b ra rb p2 la lb n h e =
-    rw (lt-leb 64 ra la, lt-leb 64 rb lb, ne-eqb (rb + 1) rs n, eq-eqb (ra + 2) rs h) e
+    rw (lt-leb budget ra la, lt-leb budget rb lb, ne-eqb (rb + 1) rs n, eq-eqb (ra + 2) rs h) e
 
 pub at-reads : (s : List ℕ) (cap d p0 p1 s0 rank0 rank1 : ℕ) (x : List ℕ × Climbed) (rs : ℕ)
     → rs ≡ field s cap s0 RANK → x ≡ climbAtWith s cap d p0 p1 s0 rank0 rank1 rs → x ≡ climbAt s cap d p0 p1 s0 rank0 rank1
@@ -65,7 +66,7 @@ pub turn-reads : (s : List ℕ) (cap p1 d : ℕ) (x : List ℕ × Climbed) (p0 s
 unfolding climbTurn
 turn-reads s cap p1 d x p0 s0 rank1 rank0 e f g h q = rw (← e, ← f, ← g, ← h) q
 
-pub turn-fits : (s : List ℕ) (cap p1 d p0 s0 rank1 rank0 : ℕ) → rank0 < 64 → rank1 ≤ rank0 + 2
+pub turn-fits : (s : List ℕ) (cap p1 d p0 s0 rank1 rank0 : ℕ) → rank0 < budget → rank1 ≤ rank0 + 2
     → _≡_ {A = List ℕ × Climbed} (s, Done) (climbTurnWith s cap p1 d p0 s0 rank1 rank0)
 unfolding climbTurnWith
-turn-fits s cap p1 d p0 s0 rank1 rank0 l h = rw (lt-leb 64 rank0 l, le-leb rank1 (rank0 + 2) h)
+turn-fits s cap p1 d p0 s0 rank1 rank0 l h = rw (lt-leb budget rank0 l, le-leb rank1 (rank0 + 2) h)

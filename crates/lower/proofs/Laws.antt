@@ -6,6 +6,7 @@ use native.Mathlib.Omega.{arith}
 use lib.Dec.{ltb, leb, eqb}
 use borrow.Author.Tests.{ltb-true, leb-false}
 use Rattle.arena.specs.Words.{field, put, RANK, BACK}
+use Rattle.arena.specs.inner.Budget.{budget}
 use Rattle.tree.specs.inner.Links.{sideOf}
 use Rattle.tree.specs.inner.Climb.{Standing}
 use Rattle.tree.specs.inner.Kept.{TreeOnly}
@@ -51,8 +52,8 @@ module _ (s : List ℕ) (cap d p0 p1 : ℕ) (h1 : p1 < cap) (hd : d ≤ 1) where
   past-with : (s0 rank0 rank1 rs a b ra rb p2 : ℕ) → s0 < cap → Turned s cap (climbPastWith s cap d p0 p1 s0 rank0 rank1 rs a b ra rb p2)
   unfolding climbPastWith
   past-with s0 rank0 rank1 rs a b ra rb p2 hs =
-      either (Turned s cap) (leb 64 ra) _ _ (λ e. turned-bad s cap)
-      (λ e. either (Turned s cap) (leb 64 rb) _ _ (λ f. turned-bad s cap)
+      either (Turned s cap) (leb budget ra) _ _ (λ e. turned-bad s cap)
+      (λ e. either (Turned s cap) (leb budget rb) _ _ (λ f. turned-bad s cap)
       (λ f. either (Turned s cap) (eqb (rb + 1) rs) _ _ (λ g. turned-done s _ cap (once-only s cap d p0 p1 p2 s0 a b ra rank1 h1 hs hd))
       (λ g. either (Turned s cap) (eqb (ra + 2) rs) _ _ (λ h. both-only s cap p1 s0 rank0 h1 hs)
       (λ h. either (Turned s cap) (leb cap a) _ _ (λ k. turned-bad s cap)
@@ -61,14 +62,14 @@ module _ (s : List ℕ) (cap d p0 p1 : ℕ) (h1 : p1 < cap) (hd : d ≤ 1) where
   at-with : (s0 rank0 rank1 rs : ℕ) → s0 < cap → Turned s cap (climbAtWith s cap d p0 p1 s0 rank0 rank1 rs)
   unfolding climbAtWith climbPast
   at-with s0 rank0 rank1 rs hs =
-      either (Turned s cap) (leb 64 rs) _ _ (λ e. turned-bad s cap)
+      either (Turned s cap) (leb budget rs) _ _ (λ e. turned-bad s cap)
       (λ e. either (Turned s cap) (eqb (rs + 2) rank1) _ _ (λ f. lower-only s cap p1 (rs + 1) h1)
       (λ f. past-with s0 rank0 rank1 rs _ _ _ _ _ hs))
 
   turn-with : (s0 rank1 rank0 : ℕ) → Turned s cap (climbTurnWith s cap p1 d p0 s0 rank1 rank0)
   unfolding climbTurnWith climbAt
   turn-with s0 rank1 rank0 =
-      either (Turned s cap) (leb 64 rank0) _ _ (λ e. turned-bad s cap)
+      either (Turned s cap) (leb budget rank0) _ _ (λ e. turned-bad s cap)
       (λ e. either (Turned s cap) (leb rank1 (rank0 + 2)) _ _ (λ f. turned-done s s cap (only-refl s cap))
       (λ f. either (Turned s cap) (leb cap s0) _ _ (λ g. turned-bad s cap)
       (λ g. at-with s0 rank0 rank1 _ (leb-false cap s0 g))))

@@ -4,11 +4,13 @@
 ghost use mathlib.Core.Path.{_≡_};
 ghost use Prim.Native.Nat.{_<_, _≤_};
 ghost use Rattle.arena.specs.Words.{Room};
+ghost use Rattle.arena.specs.inner.Budget.{budget};
 ghost use Rattle.tree.specs.inner.Climb.{Standing};
 ghost use Rattle.lower.specs.inner.Climb.{goUp, lowerOne, lowerBoth, climbPast, climbAt, climbTurn, climbFrom};
 use crate::turns;
 use arena::words;
 use arena::words::BACK;
+use arena::words::BUDGET;
 use arena::words::LEFT;
 use arena::words::RANK;
 use arena::words::RIGHT;
@@ -45,7 +47,7 @@ fn lower_both(s: &mut [u64], cap: u64, p1: u64, s0: u64, rank0: u64) -> Climbed
     requires { ⌜ Room (now s) cap ⌝ }
     requires { ⌜ p1 < cap ⌝ }
     requires { ⌜ s0 < cap ⌝ }
-    requires { ⌜ rank0 < 64 ⌝ }
+    requires { ⌜ rank0 < budget ⌝ }
     ensures { λ r. ⌜ (now (s .exit), r) ≡ lowerBoth (now (s .entry)) cap p1 s0 rank0 ⌝ }
     ensures { λ r. ⌜ Standing cap r ⌝ }
 {
@@ -69,7 +71,7 @@ fn climb_past(
     requires { ⌜ d ≤ 1 ⌝ }
     requires { ⌜ p1 < cap ⌝ }
     requires { ⌜ s0 < cap ⌝ }
-    requires { ⌜ rank0 < 64 ⌝ }
+    requires { ⌜ rank0 < budget ⌝ }
     ensures { λ r. ⌜ (now (s .exit), r) ≡ climbPast (now (s .entry)) cap d p0 p1 s0 rank0 rank1 rs ⌝ }
     ensures { λ r. ⌜ Standing cap r ⌝ }
 {
@@ -78,10 +80,10 @@ fn climb_past(
     let ra = tree::rank_of(s, cap, a);
     let rb = tree::rank_of(s, cap, b);
     let p2 = words::field(s, cap, p1, BACK);
-    if 64 <= ra {
+    if BUDGET <= ra {
         return Climbed::NotSound;
     }
-    if 64 <= rb {
+    if BUDGET <= rb {
         return Climbed::NotSound;
     }
     if rb + 1 == rs {
@@ -113,12 +115,12 @@ fn climb_at(
     requires { ⌜ d ≤ 1 ⌝ }
     requires { ⌜ p1 < cap ⌝ }
     requires { ⌜ s0 < cap ⌝ }
-    requires { ⌜ rank0 < 64 ⌝ }
+    requires { ⌜ rank0 < budget ⌝ }
     ensures { λ r. ⌜ (now (s .exit), r) ≡ climbAt (now (s .entry)) cap d p0 p1 s0 rank0 rank1 ⌝ }
     ensures { λ r. ⌜ Standing cap r ⌝ }
 {
     let rs = words::field(s, cap, s0, RANK);
-    if 64 <= rs {
+    if BUDGET <= rs {
         return Climbed::NotSound;
     }
     if rs + 2 == rank1 {
@@ -139,7 +141,7 @@ fn climb_turn(s: &mut [u64], cap: u64, p1: u64, d: u64) -> Climbed
     let s0 = words::field(s, cap, p1, RIGHT - d);
     let rank1 = words::field(s, cap, p1, RANK);
     let rank0 = tree::rank_of(s, cap, p0);
-    if 64 <= rank0 {
+    if BUDGET <= rank0 {
         return Climbed::NotSound;
     }
     if rank1 <= rank0 + 2 {
@@ -156,13 +158,13 @@ pub fn climb(s: &mut [u64], cap: u64, start: u64, side: u64) -> bool
     requires { ⌜ Room (now s) cap ⌝ }
     requires { ⌜ start < cap ⌝ }
     requires { ⌜ side ≤ 1 ⌝ }
-    ensures { λ r. ⌜ (now (s .exit), r) ≡ climbFrom 64 (now (s .entry)) cap start side ⌝ }
+    ensures { λ r. ⌜ (now (s .exit), r) ≡ climbFrom budget (now (s .entry)) cap start side ⌝ }
 {
     let mut p1 = start;
     let mut d = side;
     let mut n: u64 = 0;
     let ended = 'climb: loop {
-        if 64 <= n {
+        if BUDGET <= n {
             break 'climb false;
         }
         let a = climb_turn(s, cap, p1, d);

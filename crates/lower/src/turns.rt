@@ -4,6 +4,7 @@
 ghost use mathlib.Core.Path.{_≡_};
 ghost use Prim.Native.Nat.{_<_, _≤_};
 ghost use Rattle.arena.specs.Words.{Room};
+ghost use Rattle.arena.specs.inner.Budget.{budget};
 ghost use Rattle.lower.specs.inner.Turns.{turnOnce, turnTwice};
 use arena::words;
 use arena::words::LEFT;
@@ -27,7 +28,7 @@ pub fn turn_once(
     requires { ⌜ d ≤ 1 ⌝ }
     requires { ⌜ p1 < cap ⌝ }
     requires { ⌜ s0 < cap ⌝ }
-    requires { ⌜ ra < 64 ⌝ }
+    requires { ⌜ ra < budget ⌝ }
     ensures { λ _. ⌜ now (s .exit) ≡ turnOnce (now (s .entry)) cap d p0 p1 p2 s0 a b ra rank1 ⌝ }
 {
     tree::put_back(s, cap, a, p1);

@@ -9,10 +9,11 @@ use native.Mathlib.Omega.{arith}
 use lib.ListN.{length}
 use Rattle.handle.specs.Numbers.{noSlot}
 use Rattle.arena.specs.Words.{Long, put, RANK}
+use Rattle.arena.specs.inner.Budget.{budget}
 use Rattle.arena.proofs.Laws.{length-put}
 use Rattle.tree.specs.inner.Links.{sideOf}
 use Rattle.tree.specs.declared.Climbed.the-variants.{Done, Up}
-use Rattle.rebalance.specs.inner.Ranks.{budget, raisedUp, fixTurn, climbFrom}
+use Rattle.rebalance.specs.inner.Ranks.{raisedUp, fixTurn, climbFrom}
 use Rattle.rebalance.proofs.Fixes.{raise-up, raise-done}
 use Rattle.wavl.specs.Entry.{Entry}
 use Rattle.wavl.specs.Tree.{Side, Tree, node, rank}
@@ -100,7 +101,7 @@ module _ (cap : ℕ) (l : List ℕ) (few : cap ≤ noSlot) (fuel : ℕ) (s : Lis
 module _ (cap : ℕ) (l : List ℕ) (few : cap ≤ noSlot) where
   pub climbs : (fuel : ℕ) (s : List ℕ) (n0 : Tree) (d : Side) (e1 : Entry) (r1 : ℕ) (s0 : Tree) (e : Side) (e2 : Entry) (r2 : ℕ) (s1 : Tree) (p : Way)
       → IsFork n0 → Long s cap → Stands s cap l (plug (node e (node d n0 e1 r1 s0) e2 r2 s1) p) → r1 ≡ suc (rank n0) → WayRanks (rank n0) (step e e2 r2 s1 ∷ p)
-      → rank n0 + length p < 32 → length p < fuel
+      → suc (rank n0 + length p) < budget → length p < fuel
       → Came s cap l (insertClimb n0 d e1 r1 s0 (step e e2 r2 s1 ∷ p)) (climbFrom fuel s cap (topSlot n0) (e1 .slot) (e2 .slot) (number d) (number e))
   unfolding plug insertClimb
   climbs zero s n0 d e1 r1 s0 e e2 r2 s1 p f room T u w b h = absurd (omega arith)
@@ -119,7 +120,7 @@ module _ (cap : ℕ) (l : List ℕ) (few : cap ≤ noSlot) where
 
       go : Dec (r1 < r2) → Dec (rank s1 + 1 ≡ r2)
           → (Long t cap → Stands t cap l (plug (node c (node e (node d n0 e1 r1 s0) e2 (r1 + 1) s1) e3 r3 s2) p) → r1 + 1 ≡ suc r1 → WayRanks r1 (step c e3 r3 s2 ∷ p)
-          → r1 + length p < 32 → length p < fuel
+          → suc (r1 + length p) < budget → length p < fuel
           → Came t cap l (insertClimb (node d n0 e1 r1 s0) e e2 (r1 + 1) s1 (step c e3 r3 s2 ∷ p)) (climbFrom fuel t cap (topSlot (node d n0 e1 r1 s0)) (e2 .slot) (e3 .slot) (number e) (number c)))
           → Came s cap l (insertClimb n0 d e1 r1 s0 (step e e2 r2 s1 ∷ (step c e3 r3 s2 ∷ p))) (climbFrom (suc fuel) s cap (topSlot n0) (e1 .slot) (e2 .slot) (number d) (number e))
       go (yes x) y rest = stopped cap l few fuel s n0 d e1 r1 s0 e e2 r2 s1 (step c e3 r3 s2 ∷ p) f room T x

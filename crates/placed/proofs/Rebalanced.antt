@@ -1,6 +1,6 @@
 -- The ranks after a new entry, from the tree with the new leaf: the model gives crate `wavl`'s insertAt, with no budget met.
 -- A reader may rely on: rebalances. The tree before the new leaf is ranked, and no larger than a capacity may be.
-use Prim.Native.Nat.{ℕ, _≤_}
+use Prim.Native.Nat.{ℕ, suc, _≤_, _<_}
 use mathlib.Core.Path.{_≡_, refl, sym}
 use mathlib.Core.List.{List, [], _∷_}
 use native.Mathlib.Decide.{ℕ-discrete}
@@ -8,8 +8,9 @@ use native.Mathlib.Omega.{arith}
 use lib.ListN.{length}
 use Rattle.handle.specs.Numbers.{noSlot}
 use Rattle.arena.specs.Words.{Long, field, put, RANK}
+use Rattle.arena.specs.inner.Budget.{budget}
 use Rattle.arena.proofs.Laws.{length-put}
-use Rattle.rebalance.specs.inner.Ranks.{budget, climbedAbove, rebalanced}
+use Rattle.rebalance.specs.inner.Ranks.{climbedAbove, rebalanced}
 use Rattle.rebalance.proofs.Fixes.{top-reached, rank-fits, rank-raised, climbs as climb-starts}
 use Rattle.wavl.specs.Entry.{Entry}
 use Rattle.wavl.specs.Tree.{Side, Tree, tip, node, leaf, size}
@@ -18,7 +19,6 @@ use Rattle.wavl.specs.Ranks.{Ranks}
 use Rattle.wavl.specs.Placing.{insertClimb, insertAt}
 use Rattle.wavl.proofs.Order.{plug-same, node-same}
 use Rattle.wavl.proofs.Placed.{WayRanks, unplug-ranks}
-use Rattle.wavl.proofs.Size.{rank-le-31}
 use Rattle.wavl.proofs.Rounds.{insert-first-stop, insert-first-up, insert-root}
 use Rattle.holds.specs.Ends.{number}
 use Rattle.holds.specs.inner.Ways.{parent}
@@ -26,6 +26,7 @@ use Rattle.holds.proofs.Trees.{LinkOf, opened}
 use Rattle.holds.proofs.Ways.{top-node, unplugged, distinct-in}
 use Rattle.holds.proofs.Writes.{only-none}
 use Rattle.holds.proofs.Reshaped.{IsRoot}
+use Rattle.holds.proofs.Parts.{under-budget}
 use Rattle.holds.proofs.AnyDepth.{Came, came, came-on}
 use Rattle.placed.proofs.Restructured.{Stands, stands-on, ranked-at}
 use Rattle.placed.proofs.Turns.{side-at}
@@ -34,7 +35,7 @@ use Rattle.placed.proofs.Climbing.{way-rises, climbs}
 module _ (cap : ℕ) (l : List ℕ) (few : cap ≤ noSlot) where
   -- n1 has the rank 2 now: the climb above it
   climb-above : (s : List ℕ) (e : Entry) (d : Side) (e1 : Entry) (s0 : Tree) (p : Way) → Long s cap → Stands s cap l (plug (node d (leaf e) e1 2 s0) p)
-      → WayRanks 1 p → length p ≤ 31 → Came s cap l (insertClimb (leaf e) d e1 2 s0 p) (climbedAbove s cap (e .slot) (e1 .slot))
+      → WayRanks 1 p → suc (length p) < budget → Came s cap l (insertClimb (leaf e) d e1 2 s0 p) (climbedAbove s cap (e .slot) (e1 .slot))
   unfolding plug
   climb-above s e d e1 s0 [] room T w b =
       let x = opened s cap d noSlot (leaf e) e1 2 s0 (T .words .links) in
@@ -69,7 +70,7 @@ module _ (cap : ℕ) (l : List ℕ) (few : cap ≤ noSlot) where
           let w = unplug-ranks (step d e1 r1 s0 ∷ p) tip k .1 in
           let q : r1 ≡ 1 = omega arith in
           let w₁ : WayRanks 1 p = rw q at (w .2) in
-          let up = rank-le-31 (plug tip (step d e1 r1 s0 ∷ p)) k z in
+          let up = under-budget (plug tip (step d e1 r1 s0 ∷ p)) k z in
           let rise = way-rises (step d e1 r1 s0 ∷ p) tip w in
           let g = ranked-at s cap l few room p d (leaf e) e1 r1 s0 2 T in
           let T′ = stands-on (plug-same p (node d (leaf e) e1 2 s0) (node d (leaf e) e1 r1 s0) (node-same d e1 2 r1 (leaf e) (leaf e) s0 s0 refl refl)) T g in

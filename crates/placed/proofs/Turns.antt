@@ -6,10 +6,11 @@ use mathlib.Core.List.{List}
 use native.Mathlib.Omega.{arith}
 use borrow.Author.Tests.{lt-ltb, le-ltb, lt-leb, eq-eqb, ne-eqb}
 use Rattle.handle.specs.Numbers.{noSlot}
+use Rattle.arena.specs.inner.Budget.{budget}
 use Rattle.tree.specs.inner.Links.{rankOf, sideOf}
 use Rattle.tree.specs.declared.Climbed.{Climbed}
 use Rattle.tree.specs.declared.Climbed.the-variants.{Done}
-use Rattle.rebalance.specs.inner.Ranks.{budget, raisedUp, fixWith, fixTurn}
+use Rattle.rebalance.specs.inner.Ranks.{raisedUp, fixWith, fixTurn}
 use Rattle.rebalance.proofs.Fixes.{fix-reads, fix-same, fix-across}
 use Rattle.wavl.specs.Entry.{Entry}
 use Rattle.wavl.specs.Tree.{Side, left, right, Tree, tip, fork, node, rank}

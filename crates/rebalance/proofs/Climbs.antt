@@ -3,10 +3,11 @@ use Prim.Native.Nat.{ℕ, _+_, _-_, _<_, _≤_}
 use mathlib.Core.Path.{_≡_}
 use mathlib.Core.Bool.{Bool, true, false}
 use mathlib.Core.List.{List}
+use Rattle.arena.specs.inner.Budget.{budget}
 use Rattle.tree.specs.declared.Climbed.{Climbed}
 use Rattle.tree.specs.declared.Climbed.the-variants.{Done, Up, NotSound}
-use Rattle.tree.proofs.Climb.{left, none-left}
-use Rattle.rebalance.specs.inner.Ranks.{budget, fixTurn, climbFrom}
+use Rattle.arena.proofs.Budget.{left, none-left}
+use Rattle.rebalance.specs.inner.Ranks.{fixTurn, climbFrom}
 
 module _ (s : List ℕ) (cap p0 p1 p2 d01 d12 n : ℕ) (r : List ℕ × Bool) (inv : climbFrom (budget - n) s cap p0 p1 p2 d01 d12 ≡ r) where
   pub spent : budget ≤ n → (s, false) ≡ r

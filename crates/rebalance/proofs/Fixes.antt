@@ -5,11 +5,12 @@ use mathlib.Core.Bool.{Bool, true}
 use mathlib.Core.List.{List}
 use borrow.Author.Tests.{lt-ltb, le-ltb, le-leb, lt-leb, eq-eqb, ne-eqb}
 use Rattle.arena.specs.Words.{field, put, RIGHT, RANK, BACK}
+use Rattle.arena.specs.inner.Budget.{budget}
 use Rattle.tree.specs.inner.Links.{rankOf, sideOf}
 use Rattle.tree.specs.declared.Climbed.{Climbed}
 use Rattle.tree.specs.declared.Climbed.the-variants.{Done, Up}
 use Rattle.rebalance.specs.inner.Turns.{turnedSame, turnedAcross}
-use Rattle.rebalance.specs.inner.Ranks.{budget, above, raisedUp, fixWith, fixTurn, climbFrom, climbedTo, climbedAbove, rebalanced}
+use Rattle.rebalance.specs.inner.Ranks.{above, raisedUp, fixWith, fixTurn, climbFrom, climbedTo, climbedAbove, rebalanced}
 
 module _ (s : List ℕ) (cap p2 p3 r1 : ℕ) (x : List ℕ) (e : x ≡ put s cap p2 RANK (r1 + 1)) where
   pub raise-up : p3 < cap → (d : ℕ) → d ≡ sideOf x cap p3 p2 → _≡_ {A = List ℕ × Climbed} (x, Up p3 d) (raisedUp s cap p2 p3 r1)

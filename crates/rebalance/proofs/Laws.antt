@@ -6,12 +6,13 @@ use native.Mathlib.Omega.{arith}
 use lib.Dec.{ltb, leb, eqb}
 use borrow.Author.Tests.{ltb-true, leb-false}
 use Rattle.arena.specs.Words.{field, put, RANK, BACK}
+use Rattle.arena.specs.inner.Budget.{budget}
 use Rattle.tree.specs.inner.Links.{sideOf}
 use Rattle.tree.specs.inner.Kept.{TreeOnly}
 use Rattle.tree.specs.declared.Climbed.the-variants.{Done, Up}
 use Rattle.tree.proofs.Climb.{Turned, turned-done, turned-bad, Settled, on-only}
 use Rattle.rebalance.specs.inner.Turns.{liftedOne, turnedSame, spreadBelow, turnedAcross}
-use Rattle.rebalance.specs.inner.Ranks.{budget, above, raisedUp, fixWith, fixTurn, climbFrom, climbedTo, climbedAbove, rebalanced}
+use Rattle.rebalance.specs.inner.Ranks.{above, raisedUp, fixWith, fixTurn, climbFrom, climbedTo, climbedAbove, rebalanced}
 use Rattle.tree.proofs.Keeps.{either, only-refl, only-trans, only-put, side-small, back-only, relinked-only, node-only, spread-only}
 
 module _ (s : List ℕ) (cap d p0 p1 p2 p3 : ℕ) (h0 : p0 < cap) (h1 : p1 < cap) (h2 : p2 < cap) (hd : d ≤ 1) where

@@ -4,17 +4,16 @@
 ghost use mathlib.Core.Path.{_≡_};
 ghost use Prim.Native.Nat.{_<_, _≤_};
 ghost use Rattle.arena.specs.Words.{Room};
+ghost use Rattle.arena.specs.inner.Budget.{budget};
 ghost use Rattle.tree.specs.inner.Climb.{Standing};
-ghost use Rattle.rebalance.specs.inner.Ranks.{budget, raisedUp, fixTurn, climbFrom, climbedAbove, rebalanced};
+ghost use Rattle.rebalance.specs.inner.Ranks.{raisedUp, fixTurn, climbFrom, climbedAbove, rebalanced};
 use crate::turns;
 use arena::words;
 use arena::words::BACK;
+use arena::words::BUDGET;
 use arena::words::RANK;
 use arena::words::RIGHT;
 use tree::Climbed;
-
-// How far the climb goes, and a rank that it never meets: no sound tree is as high.
-pub const BUDGET: u64 = 64;
 
 // "raise n2 by one and climb": n2's rank becomes one more than n1's rank r1, and p3 above it is next.
 fn raise(s: &mut [u64], cap: u64, p2: u64, p3: u64, r1: u64) -> Climbed

@@ -13,6 +13,7 @@ use Rattle.arena.specs.Words.{field, head, BACK, PREV, NEXT, GENERATION, TOP, H
 use Rattle.arena.specs.inner.Entries.{isLive}
 use Rattle.arena.specs.inner.Slots.{freeWith, freeSlot}
 use Rattle.arena.specs.declared.slots.Freed.{Freed}
+use Rattle.arena.specs.inner.Budget.{budget}
 use Rattle.chain.specs.inner.Links.{joined, unlinkSlot}
 use Rattle.chain.proofs.Laws.{joined-only}
 use Rattle.tree.specs.inner.Links.{sideOf}
@@ -56,14 +57,14 @@ unfolding settleBare
 bare-only s cap q hq =
     let x = lowerOne s cap q 1 in
     let o = lower-only s cap q 1 hq in
-    on-only s (x .0) cap (x .1) _ (o .0) (o .1) (λ p d hp hd. climb-only 64 (x .0) cap p d hp hd)
+    on-only s (x .0) cap (x .1) _ (o .0) (o .1) (λ p d hp hd. climb-only budget (x .0) cap p d hp hd)
 
 pub settle-only : (s : List ℕ) (cap q e : ℕ) → e ≤ 1 → Settled s cap (settleAt s cap q e)
 unfolding settleAt
 settle-only s cap q e he =
     either (Settled s cap) (leb cap q) _ _ (λ f. only-refl s cap)
     (λ f. either (Settled s cap) (isChildless s cap q) _ _ (λ g. bare-only s cap q (leb-false cap q f))
-    (λ g. climb-only 64 s cap q e (leb-false cap q f) he))
+    (λ g. climb-only budget s cap q e (leb-false cap q f) he))
 
 pub filled-only : (s : List ℕ) (cap i m : ℕ) → m < cap → Settled s cap (filledBy s cap i m)
 unfolding filledBy filledFrom

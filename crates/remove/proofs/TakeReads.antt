@@ -7,6 +7,7 @@ use lib.Dec.{eqb}
 use borrow.Author.Tests.{eq-eqb, ne-eqb, le-leb, lt-leb}
 use Rattle.handle.specs.Numbers.{noSlot}
 use Rattle.arena.specs.Words.{field, LEFT, RIGHT}
+use Rattle.arena.specs.inner.Budget.{budget}
 use Rattle.tree.specs.declared.Climbed.{Climbed}
 use Rattle.tree.specs.declared.Climbed.the-variants.{Done, Up, NotSound}
 use Rattle.lower.specs.inner.Climb.{lowerOne, climbFrom}
@@ -21,7 +22,7 @@ childless-asks s cap i l r t e h f q = rw (← e, ← f, eq-eqb l noSlot h) q
 
 -- by the step up from a node left childless
 module _ (s : List ℕ) (cap q : ℕ) (x : List ℕ) (a : Climbed) (at : _≡_ {A = List ℕ × Climbed} (x, a) (lowerOne s cap q 1)) where
-  pub bare-up : (p d : ℕ) (r : List ℕ × Bool) → a ≡ Up p d → r ≡ climbFrom 64 x cap p d → r ≡ settleBare s cap q
+  pub bare-up : (p d : ℕ) (r : List ℕ × Bool) → a ≡ Up p d → r ≡ climbFrom budget x cap p d → r ≡ settleBare s cap q
   unfolding settleBare
   bare-up p d r e f = rw (← at, e) f
 

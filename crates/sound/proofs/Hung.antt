@@ -8,13 +8,13 @@ use native.Mathlib.Omega.{arith}
 use lib.ListN.{length}
 use Rattle.handle.specs.Numbers.{noSlot}
 use Rattle.arena.specs.Words.{field, LEFT, RIGHT, RANK, BACK, GENERATION}
+use Rattle.arena.specs.inner.Budget.{budget}
 use Rattle.wavl.specs.Lists.{In}
 use Rattle.wavl.specs.Entry.{slots}
 use Rattle.wavl.specs.Tree.{Tree, tip, fork, left, rank, inorder}
 use Rattle.wavl.specs.Ranks.{Ranks}
 use Rattle.wavl.proofs.Lists.{all-in, in-slots}
 use Rattle.wavl.proofs.Rule.{ranked→ranks}
-use Rattle.wavl.proofs.Size.{rank-le-31}
 use Rattle.rules.specs.Queue.{Handle, Queue, entries}
 use Rattle.rules.specs.Sound.{freeSlots, Under, FreeGeneration}
 use Rattle.holds.specs.Ends.{topSlot}
@@ -22,9 +22,8 @@ use Rattle.holds.specs.Links.{Links}
 use Rattle.holds.specs.Free.{Blank, FreeAt, FreeWords}
 use Rattle.holds.specs.Holds.{Holds}
 use Rattle.holds.proofs.Has.{Has, has-cases}
-use Rattle.holds.proofs.Parts.{sound-of, words-of, few-slots, separate-of, used-few, free-low, size-few}
+use Rattle.holds.proofs.Parts.{sound-of, words-of, few-slots, separate-of, used-few, free-low, size-few, under-budget}
 use Rattle.holds.proofs.States.{State, live, free, retired, state-of, live-node}
-use Rattle.sound.specs.inner.Walking.{deepest}
 use Rattle.sound.proofs.SlotFacts.{Hangs, GoodSlot, GoodPlace, Good}
 use Rattle.sound.proofs.Grown.{rank-some}
 use Rattle.sound.proofs.Walks.{top-rank}
@@ -102,13 +101,13 @@ module _ {s : List ℕ} {q : Queue} (k : Holds s q) where
   ranks : Ranks (q .tree)
   ranks = ranked→ranks (q .tree) (k .rule-2)
 
-  pub shallow : rank (q .tree) ≤ 31
-  shallow = rank-le-31 (q .tree) ranks (size-few (sound-of k))
+  pub shallow : rank (q .tree) < budget
+  shallow = under-budget (q .tree) ranks (size-few (sound-of k))
 
   hangs : (i : ℕ) → i < cap → Has i (q .tree) → Hangs s cap i
   hangs i l h = go (hung s cap few (q .tree) noSlot i (k .rule-1 .links) ranks h l)
     where
-      small : field s cap i RANK < deepest
+      small : field s cap i RANK < budget
       small = let a = under-top s cap few (q .tree) noSlot i (k .rule-1 .links) ranks h in let b = shallow in omega arith
 
       go : ((field s cap i BACK ≡ noSlot) × (topSlot (q .tree) ≡ i)) ⊎ Below s cap i → Hangs s cap i

@@ -8,13 +8,14 @@ use lib.ListN.{length}
 use borrow.Author.Tests.{le-ltb, eq-eqb}
 use Rattle.handle.specs.Numbers.{noSlot, topLimit}
 use Rattle.arena.specs.Words.{head, ROOT}
+use Rattle.arena.specs.inner.Budget.{budget}
 use Rattle.arena.proofs.Theorems.{passes}
 use Rattle.wavl.proofs.Rule.{ranked→ranks}
 use Rattle.rules.specs.Queue.{Queue, entries}
 use Rattle.holds.specs.Holds.{Holds}
 use Rattle.holds.proofs.Chains.{endOr}
 use Rattle.holds.proofs.Parts.{sound-of, words-of, few-slots, separate-of, live-low}
-use Rattle.sound.specs.inner.Walking.{deepest, walkModel, wholeTest}
+use Rattle.sound.specs.inner.Walking.{walkModel, wholeTest}
 use Rattle.sound.specs.inner.Check.{topTest, unusedTest, rulesWith, rulesTest, soundModel}
 use Rattle.sound.specs.declared.walking.Walked.the-variants.{To}
 use Rattle.sound.proofs.NodeFacts.{join-is}
@@ -34,8 +35,8 @@ module _ {s : List ℕ} {q : Queue} (k : Holds s q) where
       let few = few-slots (words-of k) in
       let low = live-low (separate-of (sound-of k)) in
       let h = shallow k in
-      let w : walkModel deepest s (q .capacity) (q .top) noSlot (head s ROOT) noSlot ≡ To (endOr noSlot (entries q)) =
-      rw (k .rule-1 .root) (walks s (q .capacity) few (q .top) (q .tree) deepest noSlot noSlot _ (k .rule-1 .links) (ranked→ranks (q .tree) (k .rule-2)) (k .live)
+      let w : walkModel budget s (q .capacity) (q .top) noSlot (head s ROOT) noSlot ≡ To (endOr noSlot (entries q)) =
+      rw (k .rule-1 .root) (walks s (q .capacity) few (q .top) (q .tree) budget noSlot noSlot _ (k .rule-1 .links) (ranked→ranks (q .tree) (k .rule-2)) (k .live)
       (k .rule-6 .live) (row-of s (q .capacity) few (entries q) low (k .rule-3) (k .live) (k .rule-4)) (omega arith)) in
       rw w (join-is s (q .capacity) _ noSlot (end-of s (q .capacity) few (entries q) low (k .rule-3)))
 

@@ -8,12 +8,12 @@ use native.Mathlib.Decide.{decLt}
 use native.Mathlib.Omega.{arith}
 use Rattle.handle.specs.Numbers.{noSlot}
 use Rattle.arena.specs.Words.{field, LEFT, RIGHT, RANK, BACK}
+use Rattle.arena.specs.inner.Budget.{budget}
 use Rattle.wavl.specs.Entry.{slots}
 use Rattle.wavl.specs.Tree.{Tree, tip, fork, left, inorder}
 use Rattle.holds.specs.Ends.{topSlot}
 use Rattle.holds.specs.Links.{Links, TreeWords}
 use Rattle.holds.proofs.Has.{Has, has-cases, has-top, has-near, has-far}
-use Rattle.sound.specs.inner.Walking.{deepest}
 use Rattle.sound.proofs.SlotFacts.{Hangs}
 
 has-none : (p : ℕ) → Has p tip → ⊥
@@ -40,7 +40,7 @@ module _ (s : List ℕ) (cap : ℕ) (few : cap ≤ noSlot) where
 
   module _ (t : Tree) (w : TreeWords s cap t) (hang : (i : ℕ) → i < cap → ¬ (field s cap i RANK ≡ 0) → Hangs s cap i) where
     -- so many ranks are above the slot's at most
-    up : (k i : ℕ) → i < cap → ¬ (field s cap i RANK ≡ 0) → deepest - field s cap i RANK ≤ k → Has i t
+    up : (k i : ℕ) → i < cap → ¬ (field s cap i RANK ≡ 0) → budget - field s cap i RANK ≤ k → Has i t
     up zero i l n h = absurd (let g = hang i l n .small in omega arith)
     up (suc k) i l n h = go (decLt (field s cap i BACK) cap) (up k (field s cap i BACK))
       where
@@ -48,12 +48,12 @@ module _ (s : List ℕ) (cap : ℕ) (few : cap ≤ noSlot) where
         g = hang i l n
 
         go : Dec (field s cap i BACK < cap) → (field s cap i BACK < cap → ¬ (field s cap (field s cap i BACK) RANK ≡ 0)
-            → deepest - field s cap (field s cap i BACK) RANK ≤ k → Has (field s cap i BACK) t) → Has i t
+            → budget - field s cap (field s cap i BACK) RANK ≤ k → Has (field s cap i BACK) t) → Has i t
         go (yes m) ih =
             let r = g .rises m in
-            let z : deepest - field s cap (field s cap i BACK) RANK ≤ k = let a = g .small in omega arith in
+            let z : budget - field s cap (field s cap i BACK) RANK ≤ k = let a = g .small in omega arith in
             child-in t noSlot (field s cap i BACK) i (w .links) (ih m (λ e. omega arith) z) (g .child m) l
         go (no m) ih = top-in t i (sym (w .root) ∙ g .root (omega arith)) l
 
     pub reached : (i : ℕ) → i < cap → ¬ (field s cap i RANK ≡ 0) → Has i t
-    reached i l n = up deepest i l n (omega arith)
+    reached i l n = up budget i l n (omega arith)

@@ -11,10 +11,10 @@ use lib.Dec.{leb, eqb}
 use borrow.Author.Tests.{leb-true, leb-false, eqb-true, eqb-false, le-leb, lt-leb, eq-eqb, ne-eqb}
 use Rattle.handle.specs.Numbers.{noSlot}
 use Rattle.arena.specs.Words.{field, head, LEFT, RIGHT, RANK, BACK, GENERATION, STACK, ROOT}
+use Rattle.arena.specs.inner.Budget.{budget}
 use Rattle.rules.specs.Sound.{Generation}
 use Rattle.holds.specs.Free.{Blank}
 use Rattle.arena.proofs.Paths.{no-refusal}
-use Rattle.sound.specs.inner.Walking.{deepest}
 use Rattle.sound.specs.inner.Slots.{unlinkedTest, blankTest, restWith, restTest, childTest, hangsWith, hangsTest, slotTest, placeWith, placeTest, slotsTest}
 use Rattle.sound.proofs.Choices.{both-say, both-are, past-is, choice-says, choice-is}
 use Rattle.sound.proofs.NodeFacts.{generation-says, generation-is}
@@ -73,7 +73,7 @@ module _ (s : List ℕ) (cap : ℕ) where
 
   -- a live slot: its rank is small; it is the root, or a child of a slot of a greater rank
   pub record Hangs (i : ℕ) : Type 0 where
-    pub small : field s cap i RANK < deepest
+    pub small : field s cap i RANK < budget
     pub root : cap ≤ field s cap i BACK → head s ROOT ≡ i
     pub rises : field s cap i BACK < cap → field s cap i RANK < field s cap (field s cap i BACK) RANK
     pub child : field s cap i BACK < cap → (field s cap (field s cap i BACK) LEFT ≡ i) ⊎ (field s cap (field s cap i BACK) RIGHT ≡ i)
@@ -97,7 +97,7 @@ module _ (s : List ℕ) (cap : ℕ) where
       let a = no-refusal _ _ e in
       let b = choice-says _ _ _ (a .1) in
       record {
-        small = leb-false deepest _ (a .0);
+        small = leb-false budget _ (a .0);
         root = λ l. eqb-true _ i (b .0 (le-leb cap _ l));
         rises = λ l. leb-false _ _ (no-refusal _ _ (b .1 (lt-leb cap _ l)) .0);
         child = λ l. let x = no-refusal (leb (field s cap (field s cap i BACK) RANK) (field s cap i RANK)) _ (b .1 (lt-leb cap _ l)) in child-says i _ (x .1);
@@ -106,7 +106,7 @@ module _ (s : List ℕ) (cap : ℕ) where
   hangs-is : (i : ℕ) → Hangs i → hangsTest s cap i ≡ true
   unfolding hangsTest hangsWith
   hangs-is i h =
-      past-is _ _ (lt-leb deepest _ (h .small))
+      past-is _ _ (lt-leb budget _ (h .small))
       (choice-is _ _ _ (λ e. eq-eqb _ i (h .root (leb-true cap _ e)))
       (λ e. let l = leb-false cap _ e in past-is _ _ (lt-leb _ _ (h .rises l)) (child-is i _ (h .child l))))
 

@@ -9,10 +9,11 @@ use borrow.Author.Tests.{eq-eqb, ne-eqb, leb-false}
 use Rattle.handle.specs.Numbers.{noSlot}
 use Rattle.arena.specs.Branch.{ifte}
 use Rattle.arena.specs.Words.{field, head, LEFT, RIGHT, ROOT}
+use Rattle.arena.specs.inner.Budget.{budget}
 use Rattle.arena.proofs.Paths.{no-refusal}
 use Rattle.sound.specs.inner.Nodes.{nodeTest}
 use Rattle.sound.specs.inner.Joints.{joinTest}
-use Rattle.sound.specs.inner.Walking.{deepest, walkNode, walkModel, wholeTest}
+use Rattle.sound.specs.inner.Walking.{walkNode, walkModel, wholeTest}
 use Rattle.sound.specs.inner.Slots.{slotTest, placeTest, slotsTest}
 use Rattle.sound.specs.inner.Check.{unusedTest}
 use Rattle.sound.specs.declared.walking.Walked.{Walked}
@@ -108,7 +109,7 @@ module _ (s : List ℕ) (cap top back p q : ℕ) where
           pub walk-on : u ≡ true → (b : ℕ) → b ≡ field s cap p RIGHT → (z : Walked) → z ≡ walkModel (n - 1) s cap top p b p → z ≡ walkModel n s cap top back p q
           walk-on o b h z w = rw (walk-open n l, ← f, g, ← d, ← m, k, ← j, o, ← h) w
 
-module _ (s : List ℕ) (cap top : ℕ) (a : ℕ) (d : a ≡ head s ROOT) (x : Walked) (m : x ≡ walkModel deepest s cap top noSlot a noSlot) where
+module _ (s : List ℕ) (cap top : ℕ) (a : ℕ) (d : a ≡ head s ROOT) (x : Walked) (m : x ≡ walkModel budget s cap top noSlot a noSlot) where
   pub whole-broken : x ≡ Broken → false ≡ wholeTest s cap top
   unfolding wholeTest
   whole-broken k = rw (← d, ← m, k)

@@ -1,4 +1,4 @@
--- The walk tests at most as many nodes as there are slots, and 64 more, whatever the words hold: the slots that it joins are apart, as
+-- The walk tests at most as many nodes as there are slots, and a budget more, whatever the words hold: the slots that it joins are apart, as
 -- a slot has one PREV, and those that it has entered and not joined are on the way from the root.
 use Prim.Native.Nat.{ℕ, zero, suc, _+_, _≤_, _<_}
 use mathlib.Core.Path.{_≡_, refl, sym, ap, _∙_}
@@ -10,12 +10,13 @@ use lib.ListN.{length}
 use borrow.Author.Tests.{eq-eqb, ne-eqb}
 use Rattle.handle.specs.Numbers.{noSlot}
 use Rattle.arena.specs.Words.{field, head, LEFT, RIGHT, PREV, ROOT}
+use Rattle.arena.specs.inner.Budget.{budget}
 use Rattle.wavl.specs.Lists.{All, Differ, Once}
 use Rattle.rules.specs.Sound.{Under}
 use Rattle.holds.proofs.Counting.{at-most}
 use Rattle.sound.specs.inner.Nodes.{nodeTest}
 use Rattle.sound.specs.inner.Joints.{joinTest}
-use Rattle.sound.specs.inner.Walking.{deepest, walkModel}
+use Rattle.sound.specs.inner.Walking.{walkModel}
 use Rattle.sound.specs.inner.Visits.{visits, allVisits}
 use Rattle.sound.specs.declared.walking.Walked.{Walked}
 use Rattle.sound.specs.declared.walking.Walked.the-variants.{To, Broken}
@@ -124,10 +125,10 @@ module _ (s : List ℕ) (cap : ℕ) (few : cap ≤ noSlot) where
         go (yes f) a b = rw (eq-eqb p noSlot f) (passed q (suc n) done t e)
         go (no f) a b = node f (nodeTest s cap top back p) refl a b
 
-    pub few-visits : allVisits s cap top ≤ cap + deepest
+    pub few-visits : allVisits s cap top ≤ cap + budget
     unfolding allVisits
     few-visits =
-        let a = went deepest noSlot (head s ROOT) noSlot [] tt refl in
+        let a = went budget noSlot (head s ROOT) noSlot [] tt refl in
         let b = at-most cap (a .joined) (once (a .joined) (a .trail)) (low (a .joined) (a .trail)) in
         let c = a .bound in
         omega arith

@@ -14,6 +14,7 @@ use Rattle.arena.specs.Header.{headerOf, Passing}
 use Rattle.arena.proofs.Theorems.{passing}
 use Rattle.arena.specs.declared.header.Header.{Header}
 use Rattle.arena.specs.declared.header.Header.the-variants.{Passes, Fails}
+use Rattle.arena.specs.inner.Budget.{budget}
 use Rattle.wavl.specs.Lists.{All, In}
 use Rattle.wavl.specs.Entry.{slots}
 use Rattle.wavl.specs.Tree.{Tree, inorder}
@@ -31,7 +32,7 @@ use Rattle.holds.proofs.States.{slot-entry, live-node}
 use Rattle.holds.proofs.Trees.{slot-low}
 use Rattle.arena.proofs.Paths.{no-refusal}
 use Rattle.sound.specs.inner.Joints.{joinTest}
-use Rattle.sound.specs.inner.Walking.{deepest, onward, walkModel, wholeTest}
+use Rattle.sound.specs.inner.Walking.{onward, walkModel, wholeTest}
 use Rattle.sound.specs.inner.Slots.{slotsTest}
 use Rattle.sound.specs.inner.Check.{topTest, unusedTest, rulesWith, rulesTest, headed, soundModel}
 use Rattle.sound.specs.declared.walking.Walked.{Walked}
@@ -52,10 +53,10 @@ record Walk (s : List ℕ) (cap top : ℕ) : Type 0 where
 
 whole-says : (s : List ℕ) (cap top : ℕ) → cap ≤ noSlot → wholeTest s cap top ≡ true → Walk s cap top
 unfolding wholeTest
-whole-says s cap top few e = go (walkModel deepest s cap top noSlot (head s ROOT) noSlot) refl e
+whole-says s cap top few e = go (walkModel budget s cap top noSlot (head s ROOT) noSlot) refl e
   where
-    go : (w : Walked) → walkModel deepest s cap top noSlot (head s ROOT) noSlot ≡ w → onward w (λ x. joinTest s cap x noSlot) false ≡ true → Walk s cap top
-    go (To x) f g = record { x = x; seen = grown s cap top few deepest noSlot (head s ROOT) noSlot x f; last = join-says s cap x noSlot g }
+    go : (w : Walked) → walkModel budget s cap top noSlot (head s ROOT) noSlot ≡ w → onward w (λ x. joinTest s cap x noSlot) false ≡ true → Walk s cap top
+    go (To x) f g = record { x = x; seen = grown s cap top few budget noSlot (head s ROOT) noSlot x f; last = join-says s cap x noSlot g }
     go Broken f g = not-yes g
 
 unused-says : (s : List ℕ) (n : ℕ) → unusedTest n s ≡ true → (k : ℕ) → k < n → head s (6 + k) ≡ 0

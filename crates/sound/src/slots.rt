@@ -6,9 +6,9 @@ ghost use Prim.Native.Nat.{_<_, _≤_};
 ghost use Rattle.arena.specs.Words.{Room};
 ghost use Rattle.sound.specs.inner.Slots.{unlinkedTest, blankTest, restTest, childTest, hangsTest, slotTest, placeTest, slotsTest};
 use crate::nodes;
-use crate::walking::DEEPEST;
 use arena::words;
 use arena::words::BACK;
+use arena::words::BUDGET;
 use arena::words::GENERATION;
 use arena::words::KEY;
 use arena::words::LEFT;
@@ -98,7 +98,7 @@ fn hangs(s: &[u64], cap: u64, i: u64) -> bool
 {
     let rank = words::field(s, cap, i, RANK);
     let p = words::field(s, cap, i, BACK);
-    if DEEPEST <= rank {
+    if BUDGET <= rank {
         return false;
     }
     if cap <= p {

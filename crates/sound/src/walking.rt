@@ -8,6 +8,7 @@ ghost use Rattle.sound.specs.inner.Walking.{walkModel, wholeTest};
 use crate::joints;
 use crate::nodes;
 use arena::words;
+use arena::words::BUDGET;
 use arena::words::LEFT;
 use arena::words::RIGHT;
 use arena::words::ROOT;
@@ -18,9 +19,6 @@ pub enum Walked {
     To(u64),
     Broken,
 }
-
-// The deepest that a walk goes: no sound tree is as high.
-pub const DEEPEST: u64 = 64;
 
 // Walks what hangs at the link p below the slot `back`, after the slot q. n more levels may be entered.
 fn walk(s: &[u64], cap: u64, top: u64, n: u64, back: u64, p: u64, q: u64) -> Walked
@@ -60,7 +58,7 @@ pub fn good_tree(s: &[u64], cap: u64, top: u64) -> bool
         s,
         cap,
         top,
-        DEEPEST,
+        BUDGET,
         Handle::NO_SLOT,
         words::head(s, ROOT),
         Handle::NO_SLOT,

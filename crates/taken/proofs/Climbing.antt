@@ -1,5 +1,5 @@
 -- The climb's state on words that hold a tree, and what it comes to.
--- A reader may rely on: ranks below 64 at the end of the way, with rule 2, bound every rank and the number of turns.
+-- A reader may rely on: ranks below the budget at the end of the way, with rule 2, bound every rank and the number of turns.
 use Prim.Native.Nat.{ℕ, suc, _+_, _≤_, _<_}
 use mathlib.Core.Path.{_≡_}
 use mathlib.Core.Bool.{Bool, true}
@@ -7,6 +7,7 @@ use mathlib.Core.List.{List, [], _∷_}
 use native.Mathlib.Omega.{arith}
 use lib.ListN.{length}
 use Rattle.arena.specs.Words.{Long}
+use Rattle.arena.specs.inner.Budget.{budget}
 use Rattle.wavl.specs.Lists.{Once}
 use Rattle.wavl.specs.Entry.{slots}
 use Rattle.wavl.specs.Tree.{Tree, rank, inorder}
@@ -36,7 +37,7 @@ pub record Climbing (s : List ℕ) (cap : ℕ) (l : List ℕ) (n0 : Tree) (p : W
   pub ranks : Ranks n0
   pub way : WayRanks (suc (rank n0)) p
   pub some : 1 ≤ rank n0 + beside p
-  pub low : peak (suc (rank n0)) p < 64
+  pub low : peak (suc (rank n0)) p < budget
 
 -- the climb at the end of a way, with so many turns left
 abbrev pub climbUp : Way → ℕ → List ℕ → ℕ → List ℕ × Bool

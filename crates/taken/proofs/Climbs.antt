@@ -1,5 +1,5 @@
 -- The climb after a removal on words that hold a tree: it answers yes, and the words hold the tree that crate `wavl` says.
--- A reader may rely on: climbs, for every way and as many turns as it has steps; the ranks below 64 are all that the size must give.
+-- A reader may rely on: climbs, for every way and as many turns as it has steps; the ranks below the budget are all that the size must give.
 use Prim.Native.Nat.{ℕ, zero, suc, _+_, _-_, _≤_, _<_}
 use mathlib.Core.Path.{_≡_, refl, sym, ap, _∙_, subst}
 use mathlib.Core.Bool.{true}
@@ -9,6 +9,7 @@ use native.Mathlib.Omega.{arith}
 use lib.ListN.{length}
 use Rattle.handle.specs.Numbers.{noSlot}
 use Rattle.arena.specs.Words.{Long, put, RANK}
+use Rattle.arena.specs.inner.Budget.{budget}
 use Rattle.arena.proofs.Laws.{length-put}
 use Rattle.wavl.specs.Lists.{In}
 use Rattle.wavl.specs.Entry.{Entry, slots}
@@ -76,7 +77,7 @@ module _ (s : List ℕ) (cap : ℕ) (few : cap ≤ noSlot) (l : List ℕ) (d : S
   member : (j : ℕ) → Has j (plug n1 q) → In j l
   member j h = rw are at h
 
-  top : r1 < 64
+  top : r1 < budget
   top = let h = peak-above r1 q (c .way .2) in let i = c .low in omega arith
 
   ended : (t : List ℕ) (x : Tree) → climbTurn s cap i1 (number d) ≡ (t, Done) → TreeWords t cap x → TreeOnly s t cap l
@@ -92,8 +93,8 @@ module _ (s : List ℕ) (cap : ℕ) (few : cap ≤ noSlot) (l : List ℕ) (d : S
       rw (e, r, g, onward-is q fuel t cap) (record { yes = i .yes; words = i .words; only = tree-trans cap l s t _ o (i .only) })
 
   -- n1's way, once n1 is lower by one
-  lower-way : 1 ≤ r1 → WayRanks (suc (r1 - 1)) q × (peak (suc (r1 - 1)) q < 64)
-  lower-way h = let e : r1 ≡ suc (r1 - 1) = omega arith in (subst (λ (i : ℕ). WayRanks i q) e (c .way .2), subst (λ (i : ℕ). peak i q < 64) e (c .low))
+  lower-way : 1 ≤ r1 → WayRanks (suc (r1 - 1)) q × (peak (suc (r1 - 1)) q < budget)
+  lower-way h = let e : r1 ≡ suc (r1 - 1) = omega arith in (subst (λ (i : ℕ). WayRanks i q) e (c .way .2), subst (λ (i : ℕ). peak i q < budget) e (c .low))
 
   pub stops : r1 ≤ rank n0 + 2 → Out
   stops h =
@@ -104,10 +105,10 @@ module _ (s : List ℕ) (cap : ℕ) (few : cap ≤ noSlot) (l : List ℕ) (d : S
     there : 1 ≤ rank s0
     there = let f = c .way .1 in omega arith
 
-    low0 : rank n0 < 64
+    low0 : rank n0 < budget
     low0 = omega (arith, top)
 
-    lows : rank s0 < 64
+    lows : rank s0 < budget
     lows = let f = c .way .1 in omega (arith, top)
 
     pub lowers : rank s0 + 2 ≡ r1 → Out
@@ -149,10 +150,10 @@ module _ (s : List ℕ) (cap : ℕ) (few : cap ≤ noSlot) (l : List ℕ) (d : S
       P : Parts d s0
       P = parts d s0 there (c .way .0)
 
-      lowa : rank a < 64
+      lowa : rank a < budget
       lowa = let f = P .fits in omega (arith, lows)
 
-      lowb : rank b < 64
+      lowb : rank b < budget
       lowb = let f = P .fits in omega (arith, lows)
 
       s0-is : s0 ≡ node d a (entry s0) (rank s0) b

@@ -12,6 +12,7 @@ use Rattle.handle.specs.Numbers.{noSlot}
 use lib.Dec.{eqb}
 use Rattle.arena.specs.Branch.{ifte}
 use Rattle.arena.specs.Words.{Long}
+use Rattle.arena.specs.inner.Budget.{budget}
 use Rattle.wavl.specs.Lists.{In}
 use Rattle.wavl.specs.Entry.{Entry, slots}
 use Rattle.wavl.specs.Tree.{Side, left, Tree, tip, fork, node, pick, rank, inorder}
@@ -76,7 +77,7 @@ module _ (s : List ℕ) (cap : ℕ) (few : cap ≤ noSlot) (room : Long s cap) (
   unfolding plug
   at-is z = plug-append w (step d z r b ∷ p) c
 
-  module _ (D : Distinct (plug M (P x))) (W : TreeWords s cap (plug M (P x))) (R : Ranks (plug M (P x))) (low : rank (plug M (P x)) < 64) where
+  module _ (D : Distinct (plug M (P x))) (W : TreeWords s cap (plug M (P x))) (R : Ranks (plug M (P x))) (low : rank (plug M (P x)) < budget) where
     abbrev i : ℕ
     i = x .slot
 
@@ -142,7 +143,7 @@ module _ (s : List ℕ) (cap : ℕ) (few : cap ≤ noSlot) (room : Long s cap) (
           room = stands-room s1 cap few room1 (pick d (plug c w) b) x r (pick d b (plug c w)) p D1 W1 e lowm gone;
           ranks = parts .0 .0;
           way = subst (λ (h : ℕ). WayRanks h (P e)) one-up (ranks-swap d x e r b p w q (parts .1));
-          low = subst (λ (h : ℕ). peak h (P e) < 64) one-up (rw (peak-swap d x e r b p w q, ← peak-rank (P x) M) low);
+          low = subst (λ (h : ℕ). peak h (P e) < budget) one-up (rw (peak-swap d x e r b p w q, ← peak-rank (P x) M) low);
         })
 
     filled-is : filledBy s cap i m ≡ settleAt s2 cap (parent (P e)) (sideIn (P e))

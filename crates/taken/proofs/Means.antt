@@ -17,7 +17,6 @@ use Rattle.wavl.specs.Tree.{Tree, fork, inorder}
 use Rattle.wavl.specs.Way.{Way, plug}
 use Rattle.wavl.specs.Taking.{removeAt}
 use Rattle.wavl.proofs.Rule.{ranked→ranks}
-use Rattle.wavl.proofs.Size.{rank-le-31}
 use Rattle.wavl.proofs.Rising.{removed-around}
 use Rattle.chain.specs.inner.Links.{joined}
 use Rattle.remove.specs.inner.Take.{takeOut}
@@ -35,7 +34,7 @@ use Rattle.rules.proofs.Removing.{live-once, remove-sound}
 use Rattle.holds.specs.Ends.{firstSlot, lastSlot}
 use Rattle.holds.specs.Handles.{plain, isSpot}
 use Rattle.holds.specs.Holds.{Holds}
-use Rattle.holds.proofs.Parts.{sound-of, words-of, holds-of, few-slots, room-of, separate-of, size-few}
+use Rattle.holds.proofs.Parts.{sound-of, words-of, holds-of, few-slots, room-of, separate-of, size-few, under-budget}
 use Rattle.holds.proofs.Live.{live-is, spot-in, entry-at}
 use Rattle.taken.specs.Meaning.{removedMeans, readMeans, Removes}
 use Rattle.holds.proofs.AnyDepth.{Came}
@@ -49,8 +48,7 @@ taking-of {s} {q} k =
     let d = sound-of k in
     let w = words-of k in
     let ranks = ranked→ranks (q .tree) (d .ranked) in
-    let low = rank-le-31 (q .tree) ranks (size-few d) in
-    record { few = few-slots w; room = room-of w; distinct = live-once d; words = w .tree; ranks = ranks; low = omega arith; chain = w .chain }
+    record { few = few-slots w; room = room-of w; distinct = live-once d; words = w .tree; ranks = ranks; low = under-budget (q .tree) ranks (size-few d); chain = w .chain }
 
 -- key and value, with the note
 answered : {g top : ℕ} (e : Dec (g < top)) (x : Entry) (y : A.Entry) → y ≡ record { key = record { 0 = signed (x .key) }; value = x .value }

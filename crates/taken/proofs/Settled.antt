@@ -10,6 +10,7 @@ use borrow.Author.Tests.{eq-eqb, ne-eqb, le-leb, lt-leb}
 use lib.ListN.{length}
 use Rattle.handle.specs.Numbers.{noSlot}
 use Rattle.arena.specs.Words.{Long, field, put, LEFT, RIGHT, RANK}
+use Rattle.arena.specs.inner.Budget.{budget}
 use Rattle.arena.proofs.Laws.{length-put}
 use Rattle.wavl.specs.Lists.{Once}
 use Rattle.wavl.specs.Entry.{Entry, slots}
@@ -42,7 +43,7 @@ pub record Lifting (s : List ℕ) (cap : ℕ) (l : List ℕ) (c : Tree) (p : Way
   pub room : Long s cap
   pub ranks : Ranks c
   pub way : WayRanks (suc (rank c)) p
-  pub low : peak (suc (rank c)) p < 64
+  pub low : peak (suc (rank c)) p < budget
 
 -- the tree that settling comes to
 abbrev pub closing : Tree → Way → Tree
@@ -97,7 +98,7 @@ module _ (cap : ℕ) (few : cap ≤ noSlot) (l : List ℕ) (s : List ℕ) where
   unfolding settleAt
   at-bare q e h b = rw (lt-leb cap q h, b)
 
-  at-parent : (q e : ℕ) → q < cap → isChildless s cap q ≡ false → settleAt s cap q e ≡ climbFrom 64 s cap q e
+  at-parent : (q e : ℕ) → q < cap → isChildless s cap q ≡ false → settleAt s cap q e ≡ climbFrom budget s cap q e
   unfolding settleAt
   at-parent q e h b = rw (lt-leb cap q h, b)
 
@@ -107,10 +108,10 @@ module _ (cap : ℕ) (few : cap ≤ noSlot) (l : List ℕ) (s : List ℕ) where
   parented c d e r u p k some b =
       let low = unplugged s cap (step d e r u ∷ p) c (k .words) .way .0 .low in
       let f = peak-above (suc (rank c)) (step d e r u ∷ p) (k .way) in
-      let g : peak (suc (rank c)) (step d e r u ∷ p) < 64 = k .low in
-      let h : length (step d e r u ∷ p) ≤ 64 = omega arith in
+      let g : peak (suc (rank c)) (step d e r u ∷ p) < budget = k .low in
+      let h : length (step d e r u ∷ p) ≤ budget = omega arith in
       rw (at-parent (e .slot) (number d) low b)
-      (climbs cap few l (step d e r u ∷ p) 64 s c h
+      (climbs cap few l (step d e r u ∷ p) budget s c h
       (record { words = k .words; slots-are = k .slots-are; once = k .once; room = k .room; ranks = k .ranks; way = k .way; some = some; low = k .low }))
 
   no-slot-top : (c : Tree) (b : ℕ) → 1 ≤ rank c → Links s cap b c → ¬ (topSlot c ≡ noSlot)
@@ -129,8 +130,8 @@ module _ (cap : ℕ) (few : cap ≤ noSlot) (l : List ℕ) (s : List ℕ) where
       let m : slots (inorder (plug (leaf e) p)) ≡ l = ap slots (plug-same p (leaf e) (node d tip e r tip) (bare-same d e r)) ∙ k .slots-are in
       let D1 : Distinct (plug (node d tip e 1 tip) p) = rw (bare-leaf d e, m) (k .once) in
       let f = peak-above r p (k .way .2) in
-      let g : peak r p < 64 = k .low in
-      let y = climbs cap few l p 64 t (leaf e) (omega arith) (record {
+      let g : peak r p < budget = k .low in
+      let y = climbs cap few l p budget t (leaf e) (omega arith) (record {
         words = rw (bare-leaf d e) at (v .words);
         slots-are = m;
         once = k .once;
@@ -144,7 +145,7 @@ module _ (cap : ℕ) (few : cap ≤ noSlot) (l : List ℕ) (s : List ℕ) where
         settle-childless d e r p,
         at-bare (e .slot) (number d) (x .way .0 .low) (both-missing s cap (e .slot) d (x .hook) (x .way .0 .far-is)),
         goes-up t cap few d tip e 1 tip p D1 (v .words),
-        onward-is p 64 t cap,
+        onward-is p budget t cap,
       )
       (record { yes = y .yes; words = y .words; only = tree-trans cap l s t _ (v .only) (y .only) })
 

@@ -8,6 +8,7 @@ use native.Mathlib.Omega.{arith}
 use borrow.Author.Tests.{eq-eqb, ne-eqb, lt-leb}
 use Rattle.handle.specs.Numbers.{noSlot}
 use Rattle.arena.specs.Words.{Long, field, LEFT, PREV, NEXT}
+use Rattle.arena.specs.inner.Budget.{budget}
 use Rattle.wavl.specs.Entry.{Entry, slots}
 use Rattle.wavl.specs.Tree.{left, right, Tree, tip, fork, rank, inorder}
 use Rattle.wavl.specs.Way.{step, Way, plug}
@@ -35,7 +36,7 @@ pub record Taking (s : List ℕ) (cap : ℕ) (t : Tree) : Type 0 where
   pub distinct : Distinct t
   pub words : TreeWords s cap t
   pub ranks : Ranks t
-  pub low : rank t < 64
+  pub low : rank t < budget
   pub chain : ChainWords s cap (inorder t)
 
 module _ (s : List ℕ) (cap i m : ℕ) where
@@ -106,7 +107,7 @@ module _ (s : List ℕ) (cap : ℕ) (a : Tree) (f : Entry) (q : ℕ) (c : Tree) 
   R : Ranks (plug M (P x))
   R = rw whole-is at (k .ranks)
 
-  low : rank (plug M (P x)) < 64
+  low : rank (plug M (P x)) < budget
   low = rw whole-is at (k .low)
 
   prev : field s cap (x .slot) PREV ≡ E .entry .slot

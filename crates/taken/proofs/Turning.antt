@@ -8,6 +8,7 @@ use borrow.Author.Tests.{eq-eqb, ne-eqb, le-leb, lt-leb}
 use Rattle.tree.specs.declared.Climbed.{Climbed}
 use Rattle.tree.specs.declared.Climbed.the-variants.{Done}
 use Rattle.handle.specs.Numbers.{noSlot}
+use Rattle.arena.specs.inner.Budget.{budget}
 use Rattle.wavl.specs.Entry.{Entry}
 use Rattle.wavl.specs.Tree.{Side, other, Tree, node, rank, entry, child}
 use Rattle.wavl.specs.Way.{step, Way}
@@ -21,7 +22,7 @@ use Rattle.holds.proofs.Ways.{Parted}
 use Rattle.taken.proofs.Lowered.{as-node, top-entry, rank-of}
 
 module _ (s : List ℕ) (cap : ℕ) (few : cap ≤ noSlot) (d : Side) (n0 : Tree) (e1 : Entry) (r1 : ℕ) (s0 : Tree) (q : Way)
-    (w : Parted s cap n0 (step d e1 r1 s0 ∷ q)) (low0 : rank n0 < 64) where
+    (w : Parted s cap n0 (step d e1 r1 s0 ∷ q)) (low0 : rank n0 < budget) where
   abbrev i1 : ℕ
   i1 = e1 .slot
 
@@ -34,10 +35,10 @@ module _ (s : List ℕ) (cap : ℕ) (few : cap ≤ noSlot) (d : Side) (n0 : Tree
 
   pub turn-ends : r1 ≤ rank n0 + 2 → turn ≡ (s, Done)
   unfolding climbTurnWith
-  turn-ends h = turn-reads ∙ rw (lt-leb 64 (rank n0) low0, le-leb r1 (rank n0 + 2) h)
+  turn-ends h = turn-reads ∙ rw (lt-leb budget (rank n0) low0, le-leb r1 (rank n0 + 2) h)
 
   -- n1 is three above n0: its other child is there
-  module _ (h : ¬ (r1 ≤ rank n0 + 2)) (there : 1 ≤ rank s0) (lows : rank s0 < 64) where
+  module _ (h : ¬ (r1 ≤ rank n0 + 2)) (there : 1 ≤ rank s0) (lows : rank s0 < budget) where
     abbrev a : Tree
     a = child d s0
 
@@ -57,18 +58,18 @@ module _ (s : List ℕ) (cap : ℕ) (few : cap ≤ noSlot) (d : Side) (n0 : Tree
     unfolding climbTurnWith climbAt
     turn-at =
         let h′ : rank n0 + 2 < r1 = omega arith in
-        turn-reads ∙ rw (top-entry s0 there, lt-leb 64 (rank n0) low0, lt-leb r1 (rank n0 + 2) h′, lt-leb cap i0 (O .0 .low), O .0 .rank-is)
+        turn-reads ∙ rw (top-entry s0 there, lt-leb budget (rank n0) low0, lt-leb r1 (rank n0 + 2) h′, lt-leb cap i0 (O .0 .low), O .0 .rank-is)
 
     pub turn-lowers : rank s0 + 2 ≡ r1 → turn ≡ lowerOne s cap i1 (rank s0 + 1)
     unfolding climbAtWith
-    turn-lowers g = turn-at ∙ rw (lt-leb 64 (rank s0) lows, eq-eqb (rank s0 + 2) r1 g)
+    turn-lowers g = turn-at ∙ rw (lt-leb budget (rank s0) lows, eq-eqb (rank s0 + 2) r1 g)
 
-    module _ (g : ¬ (rank s0 + 2 ≡ r1)) (lowa : rank a < 64) (lowb : rank b < 64) where
+    module _ (g : ¬ (rank s0 + 2 ≡ r1)) (lowa : rank a < budget) (lowb : rank b < budget) where
       turn-past : turn ≡ climbPastWith s cap (number d) (topSlot n0) i1 i0 (rank n0) r1 (rank s0) (topSlot a) (topSlot b) (rank a) (rank b) (parent q)
       unfolding climbAtWith climbPast
       turn-past =
           turn-at ∙ rw (
-            lt-leb 64 (rank s0) lows,
+            lt-leb budget (rank s0) lows,
             ne-eqb (rank s0 + 2) r1 g,
             O .0 .near-is,
             O .0 .far-is,
@@ -79,15 +80,15 @@ module _ (s : List ℕ) (cap : ℕ) (few : cap ≤ noSlot) (d : Side) (n0 : Tree
 
       pub turn-rotates : rank b + 1 ≡ rank s0 → turn ≡ (turnOnce s cap (number d) (topSlot n0) i1 (parent q) i0 (topSlot a) (topSlot b) (rank a) r1, Done)
       unfolding climbPastWith
-      turn-rotates k = turn-past ∙ rw (lt-leb 64 (rank a) lowa, lt-leb 64 (rank b) lowb, eq-eqb (rank b + 1) (rank s0) k)
+      turn-rotates k = turn-past ∙ rw (lt-leb budget (rank a) lowa, lt-leb budget (rank b) lowb, eq-eqb (rank b + 1) (rank s0) k)
 
       pub turn-lowers-both : ¬ (rank b + 1 ≡ rank s0) → rank a + 2 ≡ rank s0 → turn ≡ lowerBoth s cap i1 i0 (rank n0)
       unfolding climbPastWith
-      turn-lowers-both k m = turn-past ∙ rw (lt-leb 64 (rank a) lowa, lt-leb 64 (rank b) lowb, ne-eqb (rank b + 1) (rank s0) k, eq-eqb (rank a + 2) (rank s0) m)
+      turn-lowers-both k m = turn-past ∙ rw (lt-leb budget (rank a) lowa, lt-leb budget (rank b) lowb, ne-eqb (rank b + 1) (rank s0) k, eq-eqb (rank a + 2) (rank s0) m)
 
       pub turn-rotates-twice : ¬ (rank b + 1 ≡ rank s0) → ¬ (rank a + 2 ≡ rank s0) → topSlot a < cap
           → turn ≡ (turnTwice s cap (number d) (topSlot n0) i1 (parent q) i0 (topSlot a) (topSlot b) (rank a) r1, Done)
       unfolding climbPastWith
       turn-rotates-twice k m l =
           turn-past
-          ∙ rw (lt-leb 64 (rank a) lowa, lt-leb 64 (rank b) lowb, ne-eqb (rank b + 1) (rank s0) k, ne-eqb (rank a + 2) (rank s0) m, lt-leb cap (topSlot a) l)
+          ∙ rw (lt-leb budget (rank a) lowa, lt-leb budget (rank b) lowb, ne-eqb (rank b + 1) (rank s0) k, ne-eqb (rank a + 2) (rank s0) m, lt-leb cap (topSlot a) l)

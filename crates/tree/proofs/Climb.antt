@@ -1,21 +1,13 @@
--- What holds of both climbs, by a turn's answer: where it goes on, how often it still may, and that it touches the tree alone.
-use Prim.Native.Nat.{ℕ, suc, _+_, _-_, _<_, _≤_}
+-- What holds of both climbs, by a turn's answer: where it goes on, and that it touches the tree alone.
+use Prim.Native.Nat.{ℕ, _<_, _≤_}
 use mathlib.Core.Path.{_≡_}
 use mathlib.Core.Bool.{Bool}
 use mathlib.Core.List.{List}
-use native.Mathlib.Omega.{arith}
 use Rattle.tree.specs.inner.Climb.{Standing, onClimbed}
 use Rattle.tree.specs.inner.Kept.{TreeOnly}
 use Rattle.tree.specs.declared.Climbed.{Climbed}
 use Rattle.tree.specs.declared.Climbed.the-variants.{Done, Up, NotSound}
 use Rattle.tree.proofs.Keeps.{only-refl, only-trans}
-
--- of 64 turns n are done: one more may be taken, or none
-pub left : (n : ℕ) → n < 64 → 64 - n ≡ suc (64 - (n + 1))
-left n h = omega arith
-
-pub none-left : (n : ℕ) → 64 ≤ n → 64 - n ≡ 0
-none-left n h = omega arith
 
 module _ (cap : ℕ) (a : Climbed) (p d : ℕ) (e : a ≡ Up p d) (h : Standing cap a) where
   pub up-low : p < cap

@@ -7,6 +7,7 @@ use Prim.Native.Nat.{ℕ, suc, _+_, _*_, _^_, _≤_, _<_}
 use native.Mathlib.Omega.{arith}
 use lib.ListN.{length}
 use lib.Pow.{pow-mono}
+use Rattle.handle.specs.Numbers.{noSlot}
 use Rattle.wavl.specs.Lists.{In}
 use Rattle.wavl.specs.Entry.{Entry, Rising}
 use Rattle.wavl.specs.Tree.{left, right, Tree, tip, fork, rank, inorder, size}
@@ -118,5 +119,5 @@ unfolding find looked size
 looked-bound k tip x = omega arith
 looked-bound k (fork a e r b) x = let i = looked-tight k (fork a e r b) x (omega arith) in omega arith
 
-pub looked-le-31 : (k : ℕ) (t : Tree) → Ranks t → size t ≤ 65535 → looked (search k t) ≤ 31
+pub looked-le-31 : (k : ℕ) (t : Tree) → Ranks t → size t ≤ noSlot → looked (search k t) ≤ 31
 looked-le-31 k t x h = let i = looked-rank k t x in let j = rank-le-31 t x h in omega arith

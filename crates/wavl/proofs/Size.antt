@@ -8,6 +8,7 @@ use native.Mathlib.Nat.{mul-le-mul}
 use native.Mathlib.Omega.{arith}
 use lib.ListN.{length, length-append}
 use lib.Pow.{pow-mono}
+use Rattle.handle.specs.Numbers.{noSlot}
 use Rattle.wavl.specs.Tree.{Tree, tip, fork, rank, inorder, size}
 use Rattle.wavl.specs.Ranks.{Ranks}
 
@@ -76,5 +77,6 @@ rank-le t n r x h m = go (decLe (rank t) r)
         let s : (size t + 1) * (size t + 1) ≤ (n + 1) * (n + 1) = mul-le-mul k k in
         absurd (omega arith)
 
-pub rank-le-31 : (t : Tree) → Ranks t → size t ≤ 65535 → rank t ≤ 31
-rank-le-31 t x h = rank-le t 65535 31 x h (omega arith)
+-- no more entries than there are numbers for slots
+pub rank-le-31 : (t : Tree) → Ranks t → size t ≤ noSlot → rank t ≤ 31
+rank-le-31 t x h = rank-le t noSlot 31 x h (omega arith)

@@ -7,12 +7,9 @@ use lib.Dec.{ltb, leb, eqb}
 use Rattle.handle.specs.Numbers.{noSlot}
 use Rattle.arena.specs.Branch.{ifte}
 use Rattle.arena.specs.Words.{field, head, KEY, LEFT, ROOT}
+use Rattle.arena.specs.inner.Budget.{budget}
 use Rattle.find.specs.declared.Found.{Found}
 use Rattle.find.specs.declared.Found.the-variants.{Equal, Beside, Empty, NotSound}
-
--- the most nodes that are looked at
-abbrev pub budget : ℕ
-budget = 64
 
 -- on which side of a node's key k lies, where the two differ
 unfoldable pub sideOf : ℕ → ℕ → ℕ

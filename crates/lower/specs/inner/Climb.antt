@@ -8,6 +8,7 @@ use mathlib.Core.List.{List}
 use lib.Dec.{ltb, leb, eqb}
 use Rattle.arena.specs.Branch.{ifte}
 use Rattle.arena.specs.Words.{field, put, LEFT, RIGHT, RANK, BACK}
+use Rattle.arena.specs.inner.Budget.{budget}
 use Rattle.tree.specs.inner.Climb.{onClimbed}
 use Rattle.tree.specs.inner.Links.{rankOf, sideOf}
 use Rattle.tree.specs.declared.Climbed.{Climbed}
@@ -34,8 +35,8 @@ lowerBoth s cap p1 s0 rank0 = lowerOne (put s cap s0 RANK (rank0 + 1)) cap p1 (r
 -- by the children a and b of the sibling, their ranks, and n2 above n1
 unfoldable pub climbPastWith : List ℕ → ℕ → ℕ → ℕ → ℕ → ℕ → ℕ → ℕ → ℕ → ℕ → ℕ → ℕ → ℕ → ℕ → List ℕ × Climbed
 climbPastWith s cap d p0 p1 s0 rank0 rank1 rs a b ra rb p2 =
-    ifte (leb 64 ra) (s, NotSound)
-    (ifte (leb 64 rb) (s, NotSound)
+    ifte (leb budget ra) (s, NotSound)
+    (ifte (leb budget rb) (s, NotSound)
     (ifte (eqb (rb + 1) rs) (turnOnce s cap d p0 p1 p2 s0 a b ra rank1, Done)
     (ifte (eqb (ra + 2) rs) (lowerBoth s cap p1 s0 rank0)
     (ifte (leb cap a) (s, NotSound)
@@ -49,7 +50,7 @@ climbPast s cap d p0 p1 s0 rank0 rank1 rs =
 -- by the sibling's rank
 unfoldable pub climbAtWith : List ℕ → ℕ → ℕ → ℕ → ℕ → ℕ → ℕ → ℕ → ℕ → List ℕ × Climbed
 climbAtWith s cap d p0 p1 s0 rank0 rank1 rs =
-    ifte (leb 64 rs) (s, NotSound)
+    ifte (leb budget rs) (s, NotSound)
     (ifte (eqb (rs + 2) rank1) (lowerOne s cap p1 (rs + 1))
     (climbPast s cap d p0 p1 s0 rank0 rank1 rs))
 
@@ -59,7 +60,7 @@ climbAt s cap d p0 p1 s0 rank0 rank1 = climbAtWith s cap d p0 p1 s0 rank0 rank1 
 -- by the children of n1 and the ranks of n1 and n0
 unfoldable pub climbTurnWith : List ℕ → ℕ → ℕ → ℕ → ℕ → ℕ → ℕ → ℕ → List ℕ × Climbed
 climbTurnWith s cap p1 d p0 s0 rank1 rank0 =
-    ifte (leb 64 rank0) (s, NotSound)
+    ifte (leb budget rank0) (s, NotSound)
     (ifte (leb rank1 (rank0 + 2)) (s, Done)
     (ifte (leb cap s0) (s, NotSound)
     (climbAt s cap d p0 p1 s0 rank0 rank1)))

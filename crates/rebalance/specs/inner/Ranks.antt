@@ -7,15 +7,12 @@ use mathlib.Core.List.{List}
 use lib.Dec.{ltb, leb, eqb}
 use Rattle.arena.specs.Branch.{ifte}
 use Rattle.arena.specs.Words.{field, put, RIGHT, RANK, BACK}
+use Rattle.arena.specs.inner.Budget.{budget}
 use Rattle.tree.specs.inner.Climb.{onClimbed}
 use Rattle.tree.specs.inner.Links.{rankOf, sideOf}
 use Rattle.tree.specs.declared.Climbed.{Climbed}
 use Rattle.tree.specs.declared.Climbed.the-variants.{Done, Up, NotSound}
 use Rattle.rebalance.specs.inner.Turns.{turnedSame, turnedAcross}
-
--- how far the climb goes, and a rank that it never meets
-abbrev pub budget : ℕ
-budget = 64
 
 -- where the climb goes on above n2: p3 and its side, if it is a slot
 unfoldable pub above : List ℕ → ℕ → ℕ → ℕ → List ℕ × Climbed

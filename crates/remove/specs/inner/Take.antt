@@ -9,6 +9,7 @@ use lib.Dec.{leb, eqb}
 use Rattle.handle.specs.Numbers.{noSlot}
 use Rattle.arena.specs.Branch.{ifte}
 use Rattle.arena.specs.Words.{field, LEFT, RIGHT, PREV, NEXT}
+use Rattle.arena.specs.inner.Budget.{budget}
 use Rattle.tree.specs.inner.Climb.{onClimbed}
 use Rattle.tree.specs.declared.Climbed.{Climbed}
 use Rattle.lower.specs.inner.Climb.{lowerOne, climbFrom}
@@ -20,7 +21,7 @@ isChildless s cap i = ifte (eqb (field s cap i LEFT) noSlot) (eqb (field s cap i
 
 -- the climb from where a step up has come
 abbrev pub climbOn : List ℕ × Climbed → ℕ → List ℕ × Bool
-climbOn x cap = onClimbed (x .1) (climbFrom 64 (x .0) cap) (x .0)
+climbOn x cap = onClimbed (x .1) (climbFrom budget (x .0) cap) (x .0)
 
 -- a node left childless gets rank 1, and the climb goes one up
 unfoldable pub settleBare : List ℕ → ℕ → ℕ → List ℕ × Bool
@@ -28,7 +29,7 @@ settleBare s cap q = climbOn (lowerOne s cap q 1) cap
 
 -- the ranks from q on, whose child on the side e lost a node
 unfoldable pub settleAt : List ℕ → ℕ → ℕ → ℕ → List ℕ × Bool
-settleAt s cap q e = ifte (leb cap q) (s, true) (ifte (isChildless s cap q) (settleBare s cap q) (climbFrom 64 s cap q e))
+settleAt s cap q e = ifte (leb cap q) (s, true) (ifte (isChildless s cap q) (settleBare s cap q) (climbFrom budget s cap q e))
 
 -- what replaces a node with a child
 unfoldable pub replacementOf : List ℕ → ℕ → ℕ → ℕ

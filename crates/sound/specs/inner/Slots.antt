@@ -8,8 +8,8 @@ use lib.Dec.{leb, eqb}
 use Rattle.handle.specs.Numbers.{noSlot}
 use Rattle.arena.specs.Branch.{ifte}
 use Rattle.arena.specs.Words.{field, head, KEY, LEFT, RIGHT, RANK, BACK, PREV, NEXT, GENERATION, VALUE, STACK, ROOT}
+use Rattle.arena.specs.inner.Budget.{budget}
 use Rattle.sound.specs.inner.Nodes.{generationTest}
-use Rattle.sound.specs.inner.Walking.{deepest}
 
 unfoldable pub unlinkedTest : List ℕ → ℕ → ℕ → Bool
 unlinkedTest s cap i =
@@ -40,7 +40,7 @@ childTest s cap i p = ifte (eqb (field s cap p LEFT) i) true (eqb (field s cap p
 -- the live slot i, of that rank, below p
 unfoldable pub hangsWith : List ℕ → ℕ → ℕ → ℕ → ℕ → Bool
 hangsWith s cap i rank p =
-    ifte (leb deepest rank) false
+    ifte (leb budget rank) false
     (ifte (leb cap p) (eqb (head s ROOT) i)
     (ifte (leb (field s cap p RANK) rank) false (childTest s cap i p)))
 

@@ -6,9 +6,10 @@ use lib.Dec.{eqb}
 use Rattle.handle.specs.Numbers.{noSlot}
 use Rattle.arena.specs.Branch.{ifte}
 use Rattle.arena.specs.Words.{field, head, LEFT, RIGHT, ROOT}
+use Rattle.arena.specs.inner.Budget.{budget}
 use Rattle.sound.specs.inner.Nodes.{nodeTest}
 use Rattle.sound.specs.inner.Joints.{joinTest}
-use Rattle.sound.specs.inner.Walking.{deepest, onward, walkModel}
+use Rattle.sound.specs.inner.Walking.{onward, walkModel}
 
 unfoldable pub visits : ℕ → List ℕ → ℕ → ℕ → ℕ → ℕ → ℕ → ℕ
 visits zero s cap top back p q = 0
@@ -20,4 +21,4 @@ visits (suc n) s cap top back p q =
 
 -- of the whole walk
 unfoldable pub allVisits : List ℕ → ℕ → ℕ → ℕ
-allVisits s cap top = visits deepest s cap top noSlot (head s ROOT) noSlot
+allVisits s cap top = visits budget s cap top noSlot (head s ROOT) noSlot

@@ -8,14 +8,11 @@ use lib.Dec.{eqb}
 use Rattle.handle.specs.Numbers.{noSlot}
 use Rattle.arena.specs.Branch.{ifte}
 use Rattle.arena.specs.Words.{field, head, LEFT, RIGHT, ROOT}
+use Rattle.arena.specs.inner.Budget.{budget}
 use Rattle.sound.specs.inner.Nodes.{nodeTest}
 use Rattle.sound.specs.inner.Joints.{joinTest}
 use Rattle.sound.specs.declared.walking.Walked.{Walked}
 use Rattle.sound.specs.declared.walking.Walked.the-variants.{To, Broken}
-
--- the deepest that a walk goes
-abbrev pub deepest : ℕ
-deepest = 64
 
 -- what is done after a walk, unless it broke off
 abbrev pub onward : {A : Type 0} → Walked → (ℕ → A) → A → A
@@ -36,4 +33,4 @@ walkModel (suc n) s cap top back p q =
 
 -- from the root; after the slot met last stands no slot
 unfoldable pub wholeTest : List ℕ → ℕ → ℕ → Bool
-wholeTest s cap top = onward (walkModel deepest s cap top noSlot (head s ROOT) noSlot) (λ x. joinTest s cap x noSlot) false
+wholeTest s cap top = onward (walkModel budget s cap top noSlot (head s ROOT) noSlot) (λ x. joinTest s cap x noSlot) false

@@ -3,6 +3,7 @@ use Prim.Native.Nat.{_-_, _≤_, _<_}
 use native.Mathlib.Omega.{arith}
 use borrow.Author.Needs.{needs}
 use lib.ListN.{length}
+use Rattle.arena.specs.inner.Budget.{budget}
 use Rattle.lower.specs.inner.Climb.{climbFrom}
 use Rattle.tree.proofs.Climb.{up-low, up-side}
 use Rattle.lower.proofs.ClimbLoop.{again, ended, refused, spent}
@@ -11,12 +12,13 @@ use Rattle.lower.proofs.climbing.climb.Tie as tie
 
 abbrev Inv-climb : tie.InvT-climb
 Inv-climb s₀ cap start side p1₀ d₀ n₀ s p1 d n =
-    (n ≤ 64) × (length s ≡ length s₀) × (p1 < cap) × (d ≤ 1) × (climbFrom (64 - n) s cap p1 d ≡ climbFrom 64 s₀ cap start side)
+    (n ≤ budget) × (length s ≡ length s₀) × (p1 < cap) × (d ≤ 1) × (climbFrom (budget - n) s cap p1 d ≡ climbFrom budget s₀ cap start side)
 
 abbrev μ-climb : tie.MeasureT-climb
-μ-climb s₀ cap start side p1₀ d₀ n₀ s p1 d n = 64 - n
+μ-climb s₀ cap start side p1₀ d₀ n₀ s p1 d n = budget - n
 
 climb-holds : tie.Need-climb-holds Inv-climb μ-climb
+unfolding budget
 climb-holds c = (omega arith, refl, omega arith, omega arith, refl)
 
 climb-turn-requires : tie.Need-climb-turn-requires Inv-climb μ-climb
@@ -29,9 +31,11 @@ enum-known-a : tie.Need-enum-known-a Inv-climb μ-climb
 enum-known-a c = search needs
 
 climb-less : tie.Need-climb-less Inv-climb μ-climb
+unfolding budget
 climb-less c = omega arith
 
 climb-again : tie.Need-climb-again Inv-climb μ-climb
+unfolding budget
 climb-again c = (omega arith, omega arith, search up-low, search up-side, search again)
 
 enum-told : tie.Need-enum-told Inv-climb μ-climb
@@ -44,18 +48,21 @@ same-length : tie.Need-same-length Inv-climb μ-climb
 same-length c = omega arith
 
 returns : tie.Need-returns Inv-climb μ-climb
+unfolding budget
 returns c = search (spent, refused)
 
 same-length-2 : tie.Need-same-length-2 Inv-climb μ-climb
 same-length-2 c = omega arith
 
 returns-2 : tie.Need-returns-2 Inv-climb μ-climb
+unfolding budget
 returns-2 c = search ended
 
 same-length-3 : tie.Need-same-length-3 Inv-climb μ-climb
 same-length-3 c = omega arith
 
 returns-3 : tie.Need-returns-3 Inv-climb μ-climb
+unfolding budget
 returns-3 c = search (spent, refused)
 
 pub climb-spec : {M : Type 1} → statement M

@@ -2,6 +2,7 @@ use Rattle.arena.proofs.Paths.{paths, wrote}
 use Rattle.lower.specs.inner.Climb.{climbPastWith}
 use Rattle.lower.proofs.ClimbReads.{past-reads, past-both}
 use borrow.Author.Needs.{needs}
+use Rattle.arena.specs.inner.Budget.{budget}
 use Rattle.lower.proofs.climbing.climb_past.Statement.{statement}
 use Rattle.lower.proofs.climbing.climb_past.Tie as tie
 
@@ -30,27 +31,28 @@ same-length : tie.Need-same-length
 same-length c = search needs
 
 returns : tie.Need-returns
-unfolding climbPastWith
+unfolding climbPastWith budget
 returns c = (search (past-reads, paths) depth 12, search needs)
 
 same-length-2 : tie.Need-same-length-2
 same-length-2 c = search needs
 
 returns-2 : tie.Need-returns-2
-unfolding climbPastWith
+unfolding climbPastWith budget
 returns-2 c = (search (past-reads, paths) depth 12, search needs)
 
 add-if3 : tie.Need-add-if3
 add-if3 c = search needs
 
 turn-once-requires : tie.Need-turn-once-requires
+unfolding budget
 turn-once-requires c κs = search needs
 
 same-length-3 : tie.Need-same-length-3
 same-length-3 c = search needs
 
 returns-3 : tie.Need-returns-3
-unfolding climbPastWith
+unfolding climbPastWith budget
 returns-3 c = (search (past-reads, wrote, paths) depth 12, search needs)
 
 add-if4 : tie.Need-add-if4
@@ -63,6 +65,7 @@ same-length-4 : tie.Need-same-length-4
 same-length-4 c = search needs
 
 returns-4 : tie.Need-returns-4
+unfolding budget
 returns-4 c =
     let call = c .before .before in
     let both = call .before .before in
@@ -82,7 +85,7 @@ same-length-5 : tie.Need-same-length-5
 same-length-5 c = search needs
 
 returns-5 : tie.Need-returns-5
-unfolding climbPastWith
+unfolding climbPastWith budget
 returns-5 c = (search (past-reads, paths) depth 12, search needs)
 
 turn-twice-requires : tie.Need-turn-twice-requires
@@ -92,7 +95,7 @@ same-length-6 : tie.Need-same-length-6
 same-length-6 c = search needs
 
 returns-6 : tie.Need-returns-6
-unfolding climbPastWith
+unfolding climbPastWith budget
 returns-6 c = (search (past-reads, wrote, paths) depth 12, search needs)
 
 pub climb-past-spec : {M : Type 1} → statement M

@@ -2,6 +2,7 @@ use Rattle.arena.proofs.Paths.{paths}
 use Rattle.lower.specs.inner.Climb.{climbTurnWith}
 use Rattle.lower.proofs.ClimbReads.{turn-reads, turn-fits}
 use borrow.Author.Needs.{needs}
+use Rattle.arena.specs.inner.Budget.{budget}
 use Rattle.lower.proofs.climbing.climb_turn.Statement.{statement}
 use Rattle.lower.proofs.climbing.climb_turn.Tie as tie
 
@@ -27,7 +28,7 @@ same-length : tie.Need-same-length
 same-length c = search needs
 
 returns : tie.Need-returns
-unfolding climbTurnWith
+unfolding climbTurnWith budget
 returns c = (search (turn-reads, paths) depth 12, search needs)
 
 add-if2 : tie.Need-add-if2
@@ -37,23 +38,25 @@ same-length-2 : tie.Need-same-length-2
 same-length-2 c = search needs
 
 returns-2 : tie.Need-returns-2
+unfolding budget
 returns-2 c = (search (turn-reads, turn-fits), search needs)
 
 same-length-3 : tie.Need-same-length-3
 same-length-3 c = search needs
 
 returns-3 : tie.Need-returns-3
-unfolding climbTurnWith
+unfolding climbTurnWith budget
 returns-3 c = (search (turn-reads, paths) depth 12, search needs)
 
 climb-at-requires : tie.Need-climb-at-requires
+unfolding budget
 climb-at-requires c κs = search needs
 
 same-length-4 : tie.Need-same-length-4
 same-length-4 c = search needs
 
 returns-4 : tie.Need-returns-4
-unfolding climbTurnWith
+unfolding climbTurnWith budget
 returns-4 c = (search (turn-reads, paths) depth 12, search needs)
 
 pub climb-turn-spec : {M : Type 1} → statement M

@@ -1,16 +1,17 @@
 use Rattle.lower.proofs.ClimbReads.{lowered-both}
 use borrow.Author.Needs.{needs}
+use Rattle.arena.proofs.Budget.{budget-fits}
 use Rattle.lower.proofs.climbing.lower_both.Statement.{statement}
 use Rattle.lower.proofs.climbing.lower_both.Tie as tie
 
 add-put : tie.Need-add-put
-add-put c = search needs
+add-put c = let f = budget-fits in search needs
 
 put-requires : tie.Need-put-requires
 put-requires c κs = search needs
 
 add-lower-one : tie.Need-add-lower-one
-add-lower-one c = search needs
+add-lower-one c = let f = budget-fits in search needs
 
 lower-one-requires : tie.Need-lower-one-requires
 lower-one-requires c κs = search needs

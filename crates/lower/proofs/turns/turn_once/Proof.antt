@@ -1,5 +1,6 @@
 use Rattle.lower.proofs.ClimbReads.{once-steps}
 use borrow.Author.Needs.{needs}
+use Rattle.arena.proofs.Budget.{budget-fits}
 use Rattle.lower.proofs.turns.turn_once.Statement.{statement}
 use Rattle.lower.proofs.turns.turn_once.Tie as tie
 
@@ -7,7 +8,7 @@ put-back-requires : tie.Need-put-back-requires
 put-back-requires c κs = search needs
 
 add-put-node : tie.Need-add-put-node
-add-put-node c = search needs
+add-put-node c = let f = budget-fits in search needs
 
 put-node-requires : tie.Need-put-node-requires
 put-node-requires c κs = search needs

@@ -3,7 +3,8 @@ use Prim.Native.Nat.{_-_, _≤_, _<_}
 use native.Mathlib.Omega.{arith}
 use borrow.Author.Needs.{needs}
 use lib.ListN.{length}
-use Rattle.rebalance.specs.inner.Ranks.{budget, climbFrom}
+use Rattle.arena.specs.inner.Budget.{budget}
+use Rattle.rebalance.specs.inner.Ranks.{climbFrom}
 use Rattle.tree.proofs.Climb.{up-low, up-side}
 use Rattle.rebalance.proofs.Climbs.{again, ended, refused, spent}
 use Rattle.rebalance.proofs.ranks.climb.Statement.{statement}
@@ -18,6 +19,7 @@ abbrev μ-climb : tie.MeasureT-climb
 μ-climb s₀ cap q0 q1 q2 e01 e12 p0₀ p1₀ p2₀ d01₀ d12₀ n₀ s p0 p1 p2 d01 d12 n = budget - n
 
 climb-holds : tie.Need-climb-holds Inv-climb μ-climb
+unfolding budget
 climb-holds c = (omega arith, refl, omega arith, omega arith, omega arith, omega arith, omega arith, refl)
 
 add-n : tie.Need-add-n Inv-climb μ-climb
@@ -30,9 +32,11 @@ enum-known-a : tie.Need-enum-known-a Inv-climb μ-climb
 enum-known-a c = search needs
 
 climb-less : tie.Need-climb-less Inv-climb μ-climb
+unfolding budget
 climb-less c = omega arith
 
 climb-again : tie.Need-climb-again Inv-climb μ-climb
+unfolding budget
 climb-again c = (omega arith, omega arith, omega arith, omega arith, search up-low, omega arith, search up-side, search again)
 
 enum-told : tie.Need-enum-told Inv-climb μ-climb
@@ -45,18 +49,21 @@ same-length : tie.Need-same-length Inv-climb μ-climb
 same-length c = omega arith
 
 returns : tie.Need-returns Inv-climb μ-climb
+unfolding budget
 returns c = search spent
 
 same-length-2 : tie.Need-same-length-2 Inv-climb μ-climb
 same-length-2 c = omega arith
 
 returns-2 : tie.Need-returns-2 Inv-climb μ-climb
+unfolding budget
 returns-2 c = search ended
 
 same-length-3 : tie.Need-same-length-3 Inv-climb μ-climb
 same-length-3 c = omega arith
 
 returns-3 : tie.Need-returns-3 Inv-climb μ-climb
+unfolding budget
 returns-3 c = search refused
 
 pub climb-spec : {M : Type 1} → statement M

@@ -2,6 +2,7 @@ use Rattle.arena.proofs.Paths.{paths}
 use Rattle.rebalance.specs.inner.Ranks.{fixWith}
 use Rattle.rebalance.proofs.Fixes.{fix-reads, fix-low, fix-same, fix-across}
 use borrow.Author.Needs.{needs}
+use Rattle.arena.specs.inner.Budget.{budget}
 use Rattle.rebalance.proofs.ranks.fix_turn.Statement.{statement}
 use Rattle.rebalance.proofs.ranks.fix_turn.Tie as tie
 
@@ -39,27 +40,28 @@ same-length-2 : tie.Need-same-length-2
 same-length-2 c = search needs
 
 returns-2 : tie.Need-returns-2
-unfolding fixWith
+unfolding fixWith budget
 returns-2 c = (search (fix-reads, paths) depth 12, tt)
 
 same-length-3 : tie.Need-same-length-3
 same-length-3 c = search needs
 
 returns-3 : tie.Need-returns-3
-unfolding fixWith
+unfolding fixWith budget
 returns-3 c = (search (fix-reads, paths) depth 12, tt)
 
 add-if4 : tie.Need-add-if4
 add-if4 c = search needs
 
 raise-requires : tie.Need-raise-requires
+unfolding budget
 raise-requires c κs = search needs
 
 same-length-4 : tie.Need-same-length-4
 same-length-4 c = search needs
 
 returns-4 : tie.Need-returns-4
-unfolding fixWith
+unfolding fixWith budget
 returns-4 c = (search (fix-reads, paths) depth 12, search needs)
 
 turn-same-requires : tie.Need-turn-same-requires
@@ -69,6 +71,7 @@ same-length-5 : tie.Need-same-length-5
 same-length-5 c = search needs
 
 returns-5 : tie.Need-returns-5
+unfolding budget
 returns-5 c = (search (fix-reads, fix-same), tt)
 
 turn-across-requires : tie.Need-turn-across-requires
@@ -78,6 +81,7 @@ same-length-6 : tie.Need-same-length-6
 same-length-6 c = search needs
 
 returns-6 : tie.Need-returns-6
+unfolding budget
 returns-6 c = (search (fix-reads, fix-across), tt)
 
 pub fix-turn-spec : {M : Type 1} → statement M

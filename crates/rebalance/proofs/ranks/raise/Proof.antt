@@ -1,11 +1,12 @@
 use native.Mathlib.Omega.{arith}
 use Rattle.rebalance.proofs.Fixes.{raise-up, raise-done}
 use borrow.Author.Needs.{needs}
+use Rattle.arena.proofs.Budget.{budget-fits}
 use Rattle.rebalance.proofs.ranks.raise.Statement.{statement}
 use Rattle.rebalance.proofs.ranks.raise.Tie as tie
 
 add-put : tie.Need-add-put
-add-put c = search needs
+add-put c = let f = budget-fits in search needs
 
 put-requires : tie.Need-put-requires
 put-requires c κs = search needs

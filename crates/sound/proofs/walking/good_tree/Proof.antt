@@ -1,5 +1,6 @@
 use Rattle.sound.proofs.Turns.{whole-on, whole-broken}
 use borrow.Author.Needs.{needs}
+use Rattle.arena.specs.inner.Budget.{budget}
 use Rattle.sound.proofs.walking.good_tree.Statement.{statement}
 use Rattle.sound.proofs.walking.good_tree.Tie as tie
 
@@ -16,12 +17,14 @@ joins-requires : tie.Need-joins-requires
 joins-requires c κs = search needs
 
 returns : tie.Need-returns
+unfolding budget
 returns c = search whole-on
 
 enum-told : tie.Need-enum-told
 enum-told c = search needs
 
 returns-2 : tie.Need-returns-2
+unfolding budget
 returns-2 c = search whole-broken
 
 pub good-tree-spec : {M : Type 1} → statement M
