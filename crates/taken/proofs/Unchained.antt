@@ -110,12 +110,12 @@ module _ (s s1 : List ℕ) (q : Queue) (d : Separate q) (w : Words s q) (l : Lis
 
   -- the closed ends are slots of the chain, or none
   last-live : (k : List Entry) (j : ℕ) → j < cap → j ≡ lastSlot k → In j (slots k)
-  last-live [] j h e = absurd (omega arith)
+  last-live [] j h e = absurd (omega (arith, few))
   last-live (e ∷ k) j h z = rw z (last-in-slots e k)
 
   first-live : (k : List Entry) (j : ℕ) → j < cap → j ≡ firstSlot k → In j (slots k)
   unfolding slots
-  first-live [] j h e = absurd (omega arith)
+  first-live [] j h e = absurd (omega (arith, few))
   first-live (e ∷ k) j h z = inl z
 
   o2 : Only s1 u cap (ClosedAt a b) IsEnd
