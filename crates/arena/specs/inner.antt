@@ -1,4 +1,4 @@
 -- Models, and what serves proofs alone: nothing in this folder need be believed (docs/TRUST.md).
-pub mod Agree
+pub mod Only
 pub mod Slots
 pub mod Entries
