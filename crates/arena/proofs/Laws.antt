@@ -5,6 +5,7 @@ use mathlib.Core.Path.{_≡_}
 use mathlib.Core.List.{List}
 use mathlib.Core.Bool.{not}
 use native.Mathlib.Omega.{arith}
+use native.Mathlib.Decide.{ℕ-discrete}
 use lib.Dec.{T, eqb, T-not, eqb-refl}
 use lib.ListN.{length, getD, length-set}
 use lib.Seq.{getD-set-same, getD-set-other}
@@ -18,6 +19,9 @@ length-put s cap i f v = length-set s (place cap i f) v
 pub length-putHead : (s : List ℕ) (h v : ℕ) → length (putHead s h v) ≡ length s
 unfolding putHead
 length-putHead s h v = length-set s h v
+
+pub room-put : (s : List ℕ) (cap i f v : ℕ) → Long s cap → Long (put s cap i f v) cap
+room-put s cap i f v room = omega (arith, length-put s cap i f v)
 
 -- two numerals that differ: `lit≢ tt`
 pub lit≢ : {m n : ℕ} → T (not (eqb m n)) → m ≡ n → ⊥
@@ -39,6 +43,14 @@ module _ (s : List ℕ) (cap i f v : ℕ) (hi : i < cap) (hf : f < fields) where
   unfolding put field
   field-off j g hj hg ne =
       getD-set-other s (place cap i f) (place cap j g) v 0 (λ e. let p = place-one cap j g i f hj hi hg hf e in ne (p .1))
+
+  -- another place, be it of another slot or another field
+  pub field-other : (j g : ℕ) → j < cap → g < fields → ((j ≡ i) × (g ≡ f) → ⊥) → field (put s cap i f v) cap j g ≡ field s cap j g
+  field-other j g hj hg ne = go (ℕ-discrete g f)
+    where
+      go : Dec (g ≡ f) → field (put s cap i f v) cap j g ≡ field s cap j g
+      go (yes e) = field-slot j g hj hg (λ k. ne (k, e))
+      go (no h) = field-off j g hj hg h
 
   pub head-put : (h : ℕ) → h < headWords → head (put s cap i f v) h ≡ head s h
   unfolding put head

@@ -4,6 +4,7 @@ pub mod Places
 pub mod KeyWords
 pub mod KeyLaws
 pub mod Laws
+pub mod Only
 pub mod OneStore
 pub mod Turns
 pub mod Answers

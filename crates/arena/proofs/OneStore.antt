@@ -7,7 +7,7 @@ use native.Mathlib.Decide.{decLt}
 use lib.ListN.{getD}
 use lib.Seq.{ext-getD}
 use Rattle.arena.specs.Words.{need, headWords, fields, place, field, head}
-use Rattle.arena.specs.inner.Agree.{Agree}
+use Rattle.arena.specs.inner.Only.{Only, NoField, NoHead}
 use Rattle.arena.proofs.Places.{place-near, place-far}
 
 -- the slot and the field whose place is k
@@ -37,13 +37,13 @@ named cap k lo hi = go (decLt k (headWords + cap * 4))
       is = place-far cap ((k - (headWords + cap * 4)) / 6) (4 + (k - (headWords + cap * 4)) % 6) (omega arith) ∙ omega arith;
     }
 
-pub one-store : (s t : List ℕ) (cap : ℕ) → Agree s t cap → s ≡ t
+pub one-store : (s t : List ℕ) (cap : ℕ) → Only t s cap NoField NoHead → s ≡ t
 unfolding field head
 one-store s t cap a = ext-getD 0 s t (a .long) (λ k h. at k (decLt k headWords) (decLt k (need cap)))
   where
     at : (k : ℕ) → Dec (k < headWords) → Dec (k < need cap) → getD s k 0 ≡ getD t k 0
-    at k (yes h) d = a .heads k h
+    at k (yes h) d = a .heads k h (λ z. z)
     at k (no h) (yes d) =
         let n = named cap k (omega arith) d in
-        rw (n .is) at (a .slots (n .slot) (n .which) (n .low) (n .small))
+        rw (n .is) at (a .slots (n .slot) (n .which) (n .low) (n .small) (λ z. z))
     at k (no h) (no d) = a .rest k (omega arith)

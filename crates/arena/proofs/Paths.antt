@@ -15,6 +15,11 @@ if-true t r a b e p = rw e p
 pub if-false : {A : Type 0} (t : Bool) (r a b : A) → t ≡ false → r ≡ b → r ≡ ifte t a b
 if-false t r a b e p = rw e p
 
+-- what holds on either way, with what the test says there
+pub either : {A : Type 0} (P : A → Type 0) (t : Bool) (a b : A) → (t ≡ true → P a) → (t ≡ false → P b) → P (ifte t a b)
+either P true a b f g = f refl
+either P false a b f g = g refl
+
 -- the right side was read
 module _ (a b b′ : ℕ) (e : b ≡ b′) where
   pub lt-r : a < b → ltb a b′ ≡ true

@@ -25,7 +25,7 @@ use Rattle.arena.proofs.Answers.{good-yes, good-is, lay-refused, header
 
 module _ (s : List ℕ) (cap top : ℕ) (room : Long s 0) where
   length-zeroed : length (zeroed headWords s) ≡ length s
-  length-zeroed = zero-words headWords s (lit≤ tt) room .long
+  length-zeroed = zero-words headWords s (lit≤ tt) room .only .long
 
   pub length-head : length (freshHead s cap top) ≡ length s
   unfolding freshHead
@@ -33,7 +33,7 @@ module _ (s : List ℕ) (cap top : ℕ) (room : Long s 0) where
 
   pub head-rest : (k : ℕ) → headWords ≤ k → getD (freshHead s cap top) k 0 ≡ getD s k 0
   unfolding freshHead
-  head-rest k hk = simp (rest-putHead, lit<, tt {0}) (zero-words headWords s (lit≤ tt) room .rest k hk)
+  head-rest k hk = simp (rest-putHead, lit<, tt {0}) (zero-words headWords s (lit≤ tt) room .only .rest k hk)
 
   -- the six words in use, and those behind them
   pub head-words : (h : ℕ) → h < headWords → head (freshHead s cap top) h ≡ getD (headerWords cap top) h 0
@@ -61,10 +61,10 @@ laid-is s cap top room =
     let long = length-head s cap top bare in
     let L = lay-slots cap (freshHead s cap top) cap (omega arith) (rw long room) in
     record {
-      long = L .long ∙ long;
-      heads = λ h hh. L .heads h hh ∙ head-words s cap top bare h hh;
+      long = L .only .long ∙ long;
+      heads = λ h hh. L .only .heads h hh (λ z. z) ∙ head-words s cap top bare h hh;
       slots = λ i f hi hf. L .fresh i f hi hf (omega arith);
-      rest = λ k hk. L .rest k hk ∙ head-rest s cap top bare k (omega arith);
+      rest = λ k hk. L .only .rest k hk ∙ head-rest s cap top bare k (omega arith);
     }
 
 -- "BadLayout: laying out with capacity or top generation out of range, or a store too short", exactly; then nothing changes
@@ -83,8 +83,8 @@ refuses s cap top n = go (goodLayout (length s) cap top) refl
 pub fresh-one : (s t u : List ℕ) (cap top : ℕ) → Fresh s t cap top → Fresh s u cap top → t ≡ u
 fresh-one s t u cap top a b = one-store t u cap (record {
   long = a .long ∙ sym (b .long);
-  heads = λ h hh. a .heads h hh ∙ sym (b .heads h hh);
-  slots = λ i f hi hf. a .slots i f hi hf ∙ sym (b .slots i f hi hf);
+  heads = λ h hh n. a .heads h hh ∙ sym (b .heads h hh);
+  slots = λ i f hi hf n. a .slots i f hi hf ∙ sym (b .slots i f hi hf);
   rest = λ k hk. a .rest k hk ∙ sym (b .rest k hk);
 })
 

@@ -129,4 +129,5 @@ module _ {s t : List ℕ} {q : Queue} (v : Words s q) (w : Words t q) where
 pub same-store : {s t : List ℕ} {q : Queue} → Holds s q → Holds t q → length s ≡ length t
     → ((k : ℕ) → need (q .capacity) ≤ k → getD s k 0 ≡ getD t k 0) → s ≡ t
 same-store {s} {t} {q} h k long rest =
-    one-store s t (q .capacity) (record { long = long; heads = same-head (words-of h) (words-of k); slots = same-slot (words-of h) (words-of k); rest = rest })
+    one-store s t (q .capacity)
+    (record { long = long; heads = λ i l n. same-head (words-of h) (words-of k) i l; slots = λ i g l m n. same-slot (words-of h) (words-of k) i g l m; rest = rest })
