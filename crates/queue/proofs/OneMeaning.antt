@@ -1,11 +1,10 @@
 -- No second answer and no second store by document 01's meaning alone, with no word of the models: on a store that holds a queue an answer
 -- is known by its reading, and a store by the queue that it holds.
 -- A reader may rely on: one-look and one-write with the theorem of each reading (laid-one to moved-one). Keys are signed 64-bit numbers.
-use Prim.Native.Nat.{ℕ, zero, suc, _≤_}
+use Prim.Native.Nat.{ℕ, zero, suc}
 use mathlib.Core.Path.{_≡_, refl, sym, ap, _∙_}
 use mathlib.Core.List.{List}
 use native.Mathlib.Omega.{arith}
-use lib.ListN.{length, getD}
 use mir.Syntax.{w64}
 use mir.Val.{SFits}
 use Rattle.handle.specs.Numbers.{refusalNumber}
@@ -14,7 +13,6 @@ use Rattle.handle.specs.declared.Side.{Side}
 use Rattle.handle.specs.declared.Side.the-variants.{Less, Equal, Greater}
 use Rattle.handle.specs.declared.Refusal.{Refusal}
 use Rattle.handle.specs.declared.Refusal.the-variants.{NotWithinCapacity, FailedOrdRequirement, InvalidPtr, BadLayout, NotSound, BadTime}
-use Rattle.arena.specs.Words.{need}
 use Rattle.arena.specs.Keys.{stored, signed}
 use Rattle.arena.specs.declared.entries.Entry.{Entry}
 use Rattle.arena.specs.declared.laying.LaidOut as L
@@ -29,19 +27,13 @@ use Rattle.holds.specs.Holds.{Holds}
 use Rattle.holds.proofs.SameStore.{same-store}
 use Rattle.placed.specs.Meaning.{insertedMeans, aheadMeans, sideMeans}
 use Rattle.taken.specs.Meaning.{removedMeans, readMeans}
+use Rattle.queue.specs.Promises.{Meant}
 use Rattle.queue.specs.Readings.{laidMeans, searchMeans, movedMeans}
 use Rattle.queue.specs.declared.looking.Searched as S
 use Rattle.queue.specs.declared.cursor.Cursor.{Cursor}
 use Rattle.queue.specs.declared.cursor.Moved as M
 
 -- ---- from readings to answers and stores
-
--- what a promise says of a call that writes, beside its model
-pub record Meant {A B : Type 0} (reads : A → B) (s t : List ℕ) (x : B × Queue) (r : A) : Type 0 where
-  pub answer : reads r ≡ x .0
-  pub holds : Holds t (x .1)
-  pub long : length t ≡ length s
-  pub rest : (k : ℕ) → need (x .1 .capacity) ≤ k → getD t k 0 ≡ getD s k 0
 
 module _ {A B : Type 0} (reads : A → B) (r p : A) (one : reads r ≡ reads p → r ≡ p) where
   pub one-look : (x : B) → reads r ≡ x → reads p ≡ x → r ≡ p

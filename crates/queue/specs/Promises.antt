@@ -35,3 +35,10 @@ pub record Looks {A B : Type 0} (five : A) (model : A) (reads : A → B) (rule :
   pub does : r ≡ model
   pub fails : headerOf s ≡ Fails → r ≡ five
   pub means : (q : Queue) → Holds s q → reads r ≡ rule q
+
+-- what a promise of a call that writes says by meaning alone, with no word of its model: x is document 01's answer and queue
+pub record Meant {A B : Type 0} (reads : A → B) (s t : List ℕ) (x : B × Queue) (r : A) : Type 0 where
+  pub answer : reads r ≡ x .0
+  pub holds : Holds t (x .1)
+  pub long : length t ≡ length s
+  pub rest : (k : ℕ) → need (x .1 .capacity) ≤ k → getD t k 0 ≡ getD s k 0

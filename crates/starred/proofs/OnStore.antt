@@ -14,15 +14,11 @@ use Rattle.holds.specs.Holds.{Holds}
 use Rattle.queue.specs.Promises.{enoughIn}
 use Rattle.demand.specs.Store.{onStore}
 use Rattle.demand.proofs.Linked.{run-on-the-store}
-use Rattle.starred.specs.Starred.{Run, calls, leaves, Comes, runs}
+use Rattle.starred.specs.Starred.{Run, calls, Comes, runs}
+use Rattle.starred.specs.OnStore.{OnStore}
 use Rattle.starred.proofs.Starred.{starred}
 
--- on the store s, laid out with the run's capacity and top: the calls have the run's answers, and the store holds the queue that it leaves
-pub record OnStore (s : List ℕ) (r : Run) (good : Good (length s) (r .capacity) (r .top)) : Type 0 where
-  pub answers : runBy onStore (calls r) (layOut s (r .capacity) (r .top) .0) .0 ≡ r .steps
-  pub holds : Holds (runBy onStore (calls r) (layOut s (r .capacity) (r .top) .0) .1) (leaves r)
-
-comes-on-store : (s : List ℕ) (r : Run) → Comes r → (g : Good (length s) (r .capacity) (r .top)) → OnStore s r g
+comes-on-store : (s : List ℕ) (r : Run) → Comes r → (g : Good (length s) (r .capacity) (r .top)) → OnStore s r
 comes-on-store s r c g =
     let o = run-on-the-store s (r .capacity) (r .top) g (calls r) in
     let e = c .0 (enoughIn s) in
@@ -31,5 +27,5 @@ comes-on-store s r c g =
       holds = subst (λ (x : Queue). Holds (runBy onStore (calls r) (layOut s (r .capacity) (r .top) .0) .1) x) (ap (λ (x : History × Queue). x .1) e) (o .1 .holds);
     }
 
-pub starred-on-the-store : (s : List ℕ) → All (λ r. (g : Good (length s) (r .capacity) (r .top)) → OnStore s r g) runs
+pub starred-on-the-store : (s : List ℕ) → All (λ r. (g : Good (length s) (r .capacity) (r .top)) → OnStore s r) runs
 starred-on-the-store s = all-map _ _ (λ r c. comes-on-store s r c) runs (starred .queue)
