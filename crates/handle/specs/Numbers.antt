@@ -12,7 +12,7 @@ noSlot = 65535
 abbrev pub firstGeneration : ℕ
 firstGeneration = 1
 
--- "capacity 1 to 1,024 slots". No proof computes with it.
+-- "capacity 1 to 1,024 slots". Only proofs about the constant LIMIT open it.
 unfoldable pub limit : ℕ
 limit = 1024
 

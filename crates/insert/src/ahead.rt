@@ -1,5 +1,5 @@
 // The look-ahead: what the same insertion would get next, with nothing changed.
-// A caller relies on the equality with specs/Ahead.antt; the store is lent by shared reference.
+// A caller relies on the equality with specs/inner/Ahead.antt; the store is lent by shared reference.
 // From the Rust: SimpleOrdArenaInsertEntry::ptr and OrdEntryKind (ord/insert.rs).
 ghost use mathlib.Core.Path.{_≡_};
 ghost use Prim.Native.Nat.{_<_};

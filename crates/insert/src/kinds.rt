@@ -1,5 +1,5 @@
 // The kinds of insertion: where a key goes by Normal, Empty or Manual, or why it doesn't. Nothing is written here.
-// A caller relies on the equality with specs/Kinds.antt, and that a slot and a side in the answer can be used (PreparedIn).
+// A caller relies on the equality with specs/inner/Kinds.antt, and that a slot and a side in the answer can be used (PreparedIn).
 // From the Rust: check_ord_insert_kind and the start of insert_inx_manual_unwrap (ord/insert.rs). Manual looks at the key here.
 ghost use mathlib.Core.Path.{_≡_};
 ghost use Prim.Native.Nat.{_<_, _≤_};

@@ -1,5 +1,5 @@
 // Placing: a prepared insertion is carried out, and the three kinds of insertion from end to end.
-// A caller relies on the equality with specs/Place.antt. "An insertion that replaces never meets 1": a slot is asked for only
+// A caller relies on the equality with specs/inner/Place.antt. "An insertion that replaces never meets 1": a slot is asked for only
 // where a new entry is needed. From the Rust: SimpleOrdArenaInsertEntry::insert and insert_inx_manual_unwrap (ord/insert.rs).
 ghost use mathlib.Core.Path.{_≡_};
 ghost use Prim.Native.Nat.{_<_, _≤_};

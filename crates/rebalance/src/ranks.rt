@@ -1,5 +1,5 @@
 // The ranks after a new entry n0 under n1: from there up, until the ranks are in order again or one restructure has put them so.
-// A caller relies on the equality with specs/Ranks.antt. False says that the words hold no sound queue.
+// A caller relies on the equality with specs/inner/Ranks.antt. False says that the words hold no sound queue.
 // From the Rust: rebalance_inserted of ord/insert.rs. The climb has a budget, so that it ends on any words.
 ghost use mathlib.Core.Path.{_≡_};
 ghost use Prim.Native.Nat.{_<_, _≤_};

@@ -1,5 +1,5 @@
 -- Laying out (document 01, "What a queue holds" and number 4): a fresh queue whatever was there, or 4 and nothing changed.
--- A reader may rely on this: `enough` alone speaks of the store; crate `demand` shows that its test is the store's own.
+-- A reader may rely on this: `enough` alone speaks of the store; crate `queue` shows that good layouts are the store's own (good-one).
 use mathlib.Core.Path.{_≡_}
 use mathlib.Core.Bool.{Bool, true, false, _&&_}
 use Prim.Native.Nat.{ℕ}

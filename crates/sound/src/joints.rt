@@ -1,6 +1,6 @@
 // The test between two neighbours of the chain: next and prev agree, and keys rise. Before the first and after the last stands no
 // slot, for which the header's FIRST and LAST answer.
-// A reader may rely on: each test is a definition of specs/Joints, for any words.
+// A reader may rely on: each test is a definition of specs/inner/Joints, for any words.
 ghost use mathlib.Core.Path.{_≡_};
 ghost use Prim.Native.Nat.{_<_};
 ghost use Rattle.arena.specs.Words.{Room};

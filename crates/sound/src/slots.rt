@@ -1,5 +1,5 @@
 // The tests of each slot and of each place of the free stack, by single words.
-// A reader may rely on: each test is a definition of specs/Slots, for any words; a live slot's test asks only that it hangs below a
+// A reader may rely on: each test is a definition of specs/inner/Slots, for any words; a live slot's test asks only that it hangs below a
 // slot of a greater rank that has it as a child, or is the root: with the walk from the root, that reaches every live slot.
 ghost use mathlib.Core.Path.{_≡_};
 ghost use Prim.Native.Nat.{_<_, _≤_};

@@ -1,4 +1,4 @@
--- The short history of specs/Sample, computed.
+-- The short history of specs/inner/Sample, computed.
 -- A reader may rely on sample: what the definitions give is what was written out by hand.
 use mathlib.Core.Path.{_≡_, refl}
 use native.Mathlib.Decide.{decLe, decLt, ℕ-discrete}
