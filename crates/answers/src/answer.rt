@@ -3,6 +3,7 @@ use arena::entries::Entry;
 use handle::Refusal;
 use handle::Side;
 use output::out;
+use output::out::ROOM;
 
 // Numbers are those of insertions, but for an old value and a count, which come last.
 pub enum Answer {
@@ -27,7 +28,7 @@ pub enum Answer {
     Refused(Refusal),
 }
 
-pub fn write(o: &mut [u8; 65536], at: &mut usize, a: Answer) {
+pub fn write(o: &mut [u8; ROOM], at: &mut usize, a: Answer) {
     match a {
         Answer::Nothing => {}
         Answer::New(n) => numbered(o, at, b"new ", n),
@@ -44,7 +45,7 @@ pub fn write(o: &mut [u8; 65536], at: &mut usize, a: Answer) {
 }
 
 // The answers that say no more than a word.
-fn write_word(o: &mut [u8; 65536], at: &mut usize, a: Answer) {
+fn write_word(o: &mut [u8; ROOM], at: &mut usize, a: Answer) {
     match a {
         Answer::BadLine => out::text(o, at, b"bad line\n"),
         Answer::Unknown => out::text(o, at, b"unknown\n"),
@@ -59,20 +60,20 @@ fn write_word(o: &mut [u8; 65536], at: &mut usize, a: Answer) {
     }
 }
 
-fn numbered(o: &mut [u8; 65536], at: &mut usize, word: &[u8], n: u64) {
+fn numbered(o: &mut [u8; ROOM], at: &mut usize, word: &[u8], n: u64) {
     out::text(o, at, word);
     out::number(o, at, n);
     out::byte(o, at, b'\n');
 }
 
-fn numbered_twice(o: &mut [u8; 65536], at: &mut usize, word: &[u8], n: u64, m: u64) {
+fn numbered_twice(o: &mut [u8; ROOM], at: &mut usize, word: &[u8], n: u64, m: u64) {
     out::text(o, at, word);
     out::number(o, at, n);
     out::byte(o, at, b' ');
     numbered(o, at, b"", m);
 }
 
-fn removed(o: &mut [u8; 65536], at: &mut usize, n: u64, e: Entry, end: &[u8]) {
+fn removed(o: &mut [u8; ROOM], at: &mut usize, n: u64, e: Entry, end: &[u8]) {
     out::text(o, at, b"rem ");
     out::number(o, at, n);
     out::byte(o, at, b' ');
@@ -80,13 +81,13 @@ fn removed(o: &mut [u8; 65536], at: &mut usize, n: u64, e: Entry, end: &[u8]) {
     out::text(o, at, end);
 }
 
-fn got(o: &mut [u8; 65536], at: &mut usize, e: Entry) {
+fn got(o: &mut [u8; ROOM], at: &mut usize, e: Entry) {
     out::text(o, at, b"got ");
     out::entry(o, at, e);
     out::byte(o, at, b'\n');
 }
 
-fn found(o: &mut [u8; 65536], at: &mut usize, side: Side, n: u64, count: u64) {
+fn found(o: &mut [u8; ROOM], at: &mut usize, side: Side, n: u64, count: u64) {
     match side {
         Side::Less => numbered_twice(o, at, b"less ", n, count),
         Side::Equal => numbered_twice(o, at, b"eq ", n, count),

@@ -85,3 +85,13 @@ module _ (s : List ℕ) (h v : ℕ) (hh : h < headWords) where
 
 pub head-at : (n : ℕ) → need 0 ≤ n → (s : List ℕ) (h v : ℕ) → h < headWords → length s ≡ n → head (putHead s h v) h ≡ v
 head-at n room s h v hh e = head-same s h v hh (rw e room)
+
+-- a read sees nothing past the needed words: two stores that agree on these are read alike
+module _ (s t : List ℕ) (cap : ℕ) (same : (k : ℕ) → k < need cap → getD s k 0 ≡ getD t k 0) where
+  pub field-needed : (i f : ℕ) → i < cap → f < fields → field s cap i f ≡ field t cap i f
+  unfolding field
+  field-needed i f hi hf = same (place cap i f) (place-within cap i f hi hf .high)
+
+  pub head-needed : (h : ℕ) → h < headWords → head s h ≡ head t h
+  unfolding head
+  head-needed h hh = same h (omega arith)

@@ -1,7 +1,10 @@
 // Document 01's "Runs on the bench" that are not proved but run: what laying out refuses, and the whole listing of run A.
 // The stored output beside src/ is written from document 01.
 use arena::laying::LaidOut;
+use arena::words::FIELDS;
+use arena::words::STORE;
 use handle::Key;
+use handle::LIMIT;
 use insert::place::Inserted;
 use output::say;
 use queue::placing;
@@ -30,11 +33,12 @@ fn strike(s: &mut [u64], k: i64, value: u64) {
 }
 
 fn main() {
-    let mut s = [0u64; 10266];
+    // Large enough for one slot more than the limit, so that it is the limit that refuses it.
+    let mut s = [0u64; STORE + FIELDS as usize];
     lay(&mut s, 0, 3);
-    lay(&mut s, 1025, 3);
+    lay(&mut s, LIMIT + 1, 3);
     lay(&mut s, 1, 3);
-    lay(&mut s, 1024, 3);
+    lay(&mut s, LIMIT, 3);
     lay(&mut s, 8, 0);
     lay(&mut s, 8, 3);
     strike(&mut s, 10, 1);

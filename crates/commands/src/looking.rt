@@ -1,5 +1,6 @@
 // The commands that look: the look-ahead, `get`, `find`, steps along the chain by the cursor, and `check`.
 use answers::answer::Answer;
+use arena::words::STORE;
 use handle::Key;
 use handle::Side;
 use insert::ahead::Ahead;
@@ -9,9 +10,10 @@ use queue::looking::Searched;
 use remove::reading::Reading;
 use script::command::Place;
 use script::table;
+use script::table::TABLE;
 
 // What an insertion would answer, without the number of a new entry and without the old value.
-pub fn ahead(s: &[u64; 10256], t: &[u64; 17409], place: Place, key: Key) -> Answer {
+pub fn ahead(s: &[u64; STORE], t: &[u64; TABLE], place: Place, key: Key) -> Answer {
     let answer = ahead_at(s, t, place, key);
     match answer {
         Ahead::New(_) => Answer::WouldBeNew,
@@ -20,7 +22,7 @@ pub fn ahead(s: &[u64; 10256], t: &[u64; 17409], place: Place, key: Key) -> Answ
     }
 }
 
-fn ahead_at(s: &[u64; 10256], t: &[u64; 17409], place: Place, key: Key) -> Ahead {
+fn ahead_at(s: &[u64; STORE], t: &[u64; TABLE], place: Place, key: Key) -> Ahead {
     match place {
         Place::Normal => queue::placing::look_ahead(s, key),
         Place::Empty => queue::placing::look_ahead_empty(s),
@@ -31,7 +33,7 @@ fn ahead_at(s: &[u64; 10256], t: &[u64; 17409], place: Place, key: Key) -> Ahead
     }
 }
 
-pub fn get(s: &[u64; 10256], t: &[u64; 17409], n: u64) -> Answer {
+pub fn get(s: &[u64; STORE], t: &[u64; TABLE], n: u64) -> Answer {
     let h = table::handle_of(t, n);
     let answer = queue::looking::read(s, h);
     match answer {
@@ -40,7 +42,7 @@ pub fn get(s: &[u64; 10256], t: &[u64; 17409], n: u64) -> Answer {
     }
 }
 
-pub fn find(s: &[u64; 10256], t: &[u64; 17409], key: Key) -> Answer {
+pub fn find(s: &[u64; STORE], t: &[u64; TABLE], key: Key) -> Answer {
     let answer = queue::looking::search(s, key);
     match answer {
         Searched::Equal(h, count) => Answer::Found(
@@ -59,7 +61,7 @@ pub fn find(s: &[u64; 10256], t: &[u64; 17409], key: Key) -> Answer {
 }
 
 // Where a cursor has come to.
-fn moved(t: &[u64; 17409], m: Moved) -> Answer {
+fn moved(t: &[u64; TABLE], m: Moved) -> Answer {
     match m {
         Moved::At(c) => Answer::At(table::number_of(t, c.handle.slot.0)),
         Moved::End => Answer::End,
@@ -67,15 +69,15 @@ fn moved(t: &[u64; 17409], m: Moved) -> Answer {
     }
 }
 
-pub fn first(s: &[u64; 10256], t: &[u64; 17409]) -> Answer {
+pub fn first(s: &[u64; STORE], t: &[u64; TABLE]) -> Answer {
     moved(t, Cursor::first(s))
 }
 
-pub fn last(s: &[u64; 10256], t: &[u64; 17409]) -> Answer {
+pub fn last(s: &[u64; STORE], t: &[u64; TABLE]) -> Answer {
     moved(t, Cursor::last(s))
 }
 
-pub fn next(s: &[u64; 10256], t: &[u64; 17409], n: u64) -> Answer {
+pub fn next(s: &[u64; STORE], t: &[u64; TABLE], n: u64) -> Answer {
     let m = Cursor::at(s, table::handle_of(t, n));
     match m {
         Moved::At(c) => moved(t, c.forward(s)),
@@ -83,7 +85,7 @@ pub fn next(s: &[u64; 10256], t: &[u64; 17409], n: u64) -> Answer {
     }
 }
 
-pub fn prev(s: &[u64; 10256], t: &[u64; 17409], n: u64) -> Answer {
+pub fn prev(s: &[u64; STORE], t: &[u64; TABLE], n: u64) -> Answer {
     let m = Cursor::at(s, table::handle_of(t, n));
     match m {
         Moved::At(c) => moved(t, c.back(s)),

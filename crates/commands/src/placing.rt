@@ -1,15 +1,17 @@
 // The commands that change the queue: `new`, the three insertions, `rem`.
 use answers::answer::Answer;
 use arena::laying::LaidOut;
+use arena::words::STORE;
 use handle::Key;
 use insert::place::Inserted;
 use queue::taking;
 use remove::removing::Removed;
 use script::command::Place;
 use script::table;
+use script::table::TABLE;
 
 // A refused `new` leaves the earlier queue and its numbers as they were.
-pub fn lay_out(s: &mut [u64; 10256], t: &mut [u64; 17409], capacity: u64, top: u64) -> Answer {
+pub fn lay_out(s: &mut [u64; STORE], t: &mut [u64; TABLE], capacity: u64, top: u64) -> Answer {
     let answer = queue::placing::lay_out(s, capacity, top);
     match answer {
         LaidOut::Done => {
@@ -22,8 +24,8 @@ pub fn lay_out(s: &mut [u64; 10256], t: &mut [u64; 17409], capacity: u64, top: u
 
 // An insertion, unless every number has been given: then it is not tried.
 pub fn insertion(
-    s: &mut [u64; 10256],
-    t: &mut [u64; 17409],
+    s: &mut [u64; STORE],
+    t: &mut [u64; TABLE],
     place: Place,
     key: Key,
     value: u64,
@@ -40,8 +42,8 @@ pub fn insertion(
 }
 
 fn insert_at(
-    s: &mut [u64; 10256],
-    t: &[u64; 17409],
+    s: &mut [u64; STORE],
+    t: &[u64; TABLE],
     place: Place,
     key: Key,
     value: u64,
@@ -56,7 +58,7 @@ fn insert_at(
     }
 }
 
-pub fn remove(s: &mut [u64; 10256], t: &[u64; 17409], n: u64) -> Answer {
+pub fn remove(s: &mut [u64; STORE], t: &[u64; TABLE], n: u64) -> Answer {
     let h = table::handle_of(t, n);
     let answer = taking::remove(s, h);
     match answer {

@@ -1,6 +1,9 @@
 // The planning: a queue is laid out, and the strikes of the hour from six to seven are planned in it.
 use crate::Store;
+use arena::words::FIELDS;
+use arena::words::STORE;
 use handle::Handle;
+use handle::LIMIT;
 use output::say;
 use tower::planning::lay;
 use tower::planning::plan;
@@ -26,13 +29,13 @@ pub struct Planned {
     pub half: Handle,
 }
 
-// 1,025 slots are tried on a store that would be long enough for them, so that it is the limit that refuses them.
+// One slot more than the limit is tried on a store that would be long enough, so that it is the limit that refuses it.
 pub fn lay_out(s: &mut Store) {
-    let mut wide = [0u64; 10266];
+    let mut wide = [0u64; STORE + FIELDS as usize];
     say::text(b"A queue is laid out. Before that no strike can be planned.\n");
     plan(s, SIX, 6);
     lay(s, 0, 9);
-    lay(&mut wide, 1_025, 9);
+    lay(&mut wide, LIMIT + 1, 9);
     lay(s, 6, 9);
     lay(s, 5, 9);
 }

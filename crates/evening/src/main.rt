@@ -3,11 +3,15 @@
 mod bell;
 mod hour;
 
+use arena::words::FIELDS;
+use arena::words::HEAD_WORDS;
 use output::say;
 use tower::clock;
 
-// What the clock lends: five slots take 16 numbers, and 10 for each.
-type Store = [u64; 66];
+// What the clock lends: the numbers that five slots take.
+const LENT: usize = (HEAD_WORDS + 5 * FIELDS) as usize;
+
+type Store = [u64; LENT];
 
 fn open() {
     say::text(b"An evening of strikes: day ");
@@ -25,7 +29,7 @@ fn list(s: &Store) {
 }
 
 fn main() {
-    let mut s = [0u64; 66];
+    let mut s = [0u64; LENT];
     open();
     hour::lay_out(&mut s);
     let planned = hour::plan_all(&mut s);

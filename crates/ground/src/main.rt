@@ -7,6 +7,10 @@ use arena::laying::LaidOut;
 use arena::slots;
 use arena::slots::Freed;
 use arena::slots::Taken;
+use arena::words::FIELDS;
+use arena::words::STORE;
+use handle::LIMIT;
+use handle::TOP_LIMIT;
 use output::say;
 
 // Lays the store out and says how that went.
@@ -103,7 +107,7 @@ fn two_lives(s: &mut [u64]) {
 
 // The slot freed last is taken first.
 fn last_first(s: &mut [u64]) {
-    lay(s, 3, 4294967295);
+    lay(s, 3, TOP_LIMIT);
     take_one(s);
     take_one(s);
     take_one(s);
@@ -116,17 +120,18 @@ fn last_first(s: &mut [u64]) {
 }
 
 fn main() {
-    let mut large = [7u64; 10266];
-    let mut short = [7u64; 10255];
+    // Large enough for one slot more than the limit, so that it is the limit that refuses it.
+    let mut large = [7u64; STORE + FIELDS as usize];
+    let mut short = [7u64; STORE - 1];
     let mut small = [7u64; 64];
     lay(&mut large, 0, 3);
-    lay(&mut large, 1025, 3);
-    lay(&mut large, 1024, 0);
-    lay(&mut large, 1024, 4294967296);
-    lay(&mut short, 1024, 3);
+    lay(&mut large, LIMIT + 1, 3);
+    lay(&mut large, LIMIT, 0);
+    lay(&mut large, LIMIT, TOP_LIMIT + 1);
+    lay(&mut short, LIMIT, 3);
     take_one(&mut large);
-    lay(&mut large, 1024, 3);
-    take_all(&mut large, 2000);
+    lay(&mut large, LIMIT, 3);
+    take_all(&mut large, 2 * LIMIT);
     take_one(&mut large);
     two_lives(&mut small);
     last_first(&mut small);

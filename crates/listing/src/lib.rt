@@ -10,6 +10,7 @@ use arena::words::RANK;
 use handle::Handle;
 use handle::Refusal;
 use output::out;
+use output::out::ROOM;
 use output::say;
 use queue::cursor::Cursor;
 use queue::cursor::Moved;
@@ -28,7 +29,7 @@ pub fn print(s: &[u64]) {
 }
 
 // Lists into a buffer, where the header passes. Answers whether it does.
-pub fn list(s: &[u64], o: &mut [u8; 65536], at: &mut usize) -> bool {
+pub fn list(s: &[u64], o: &mut [u8; ROOM], at: &mut usize) -> bool {
     let h = header::test(s);
     match h {
         Header::Passes(cap) => {
@@ -55,7 +56,7 @@ pub fn chain_length(s: &[u64], most: u64) -> u64 {
 }
 
 // `live L free F retired R`: a slot that is neither live nor free is retired.
-fn counts(s: &[u64], cap: u64, o: &mut [u8; 65536], at: &mut usize)
+fn counts(s: &[u64], cap: u64, o: &mut [u8; ROOM], at: &mut usize)
     requires { ⌜ Room (now s) cap ⌝ }
 {
     let live = chain_length(s, cap);
@@ -80,7 +81,7 @@ fn rest(all: u64, one: u64, other: u64) -> u64 {
     all - one - other
 }
 
-fn list_entries(s: &[u64], cap: u64, o: &mut [u8; 65536], at: &mut usize)
+fn list_entries(s: &[u64], cap: u64, o: &mut [u8; ROOM], at: &mut usize)
     requires { ⌜ Room (now s) cap ⌝ }
 {
     let mut left = cap;
@@ -96,7 +97,7 @@ fn list_entries(s: &[u64], cap: u64, o: &mut [u8; 65536], at: &mut usize)
 }
 
 // `KEY VALUE SLOT GENERATION RANK`
-fn list_entry(s: &[u64], cap: u64, h: Handle, o: &mut [u8; 65536], at: &mut usize)
+fn list_entry(s: &[u64], cap: u64, h: Handle, o: &mut [u8; ROOM], at: &mut usize)
     requires { ⌜ Room (now s) cap ⌝ }
 {
     key_and_value(s, h, o, at);
@@ -108,7 +109,7 @@ fn list_entry(s: &[u64], cap: u64, h: Handle, o: &mut [u8; 65536], at: &mut usiz
 }
 
 // The key and the value of an entry, or the number of the refusal.
-pub fn key_and_value(s: &[u64], h: Handle, o: &mut [u8; 65536], at: &mut usize) {
+pub fn key_and_value(s: &[u64], h: Handle, o: &mut [u8; ROOM], at: &mut usize) {
     let answer = looking::read(s, h);
     match answer {
         Reading::Entry(e) => out::entry(o, at, e),
@@ -117,7 +118,7 @@ pub fn key_and_value(s: &[u64], h: Handle, o: &mut [u8; 65536], at: &mut usize) 
 }
 
 // A space, and the rank of a slot.
-pub fn rank(s: &[u64], cap: u64, i: u64, o: &mut [u8; 65536], at: &mut usize)
+pub fn rank(s: &[u64], cap: u64, i: u64, o: &mut [u8; ROOM], at: &mut usize)
     requires { ⌜ Room (now s) cap ⌝ }
 {
     if i < cap {

@@ -19,12 +19,12 @@ fn write_first(all: &[u8], n: usize) {
 }
 
 // Writes the first `at` bytes out, and begins again.
-pub fn flush(out: &mut [u8; 65536], at: &mut usize) {
+pub fn flush(out: &mut [u8; ROOM], at: &mut usize) {
     write_first(out, *at);
     *at = 0;
 }
 
-pub fn byte(out: &mut [u8; 65536], at: &mut usize, b: u8) {
+pub fn byte(out: &mut [u8; ROOM], at: &mut usize, b: u8) {
     if *at >= ROOM {
         flush(out, at);
     }
@@ -35,7 +35,7 @@ pub fn byte(out: &mut [u8; 65536], at: &mut usize, b: u8) {
     }
 }
 
-pub fn text(out: &mut [u8; 65536], at: &mut usize, t: &[u8]) {
+pub fn text(out: &mut [u8; ROOM], at: &mut usize, t: &[u8]) {
     let mut i: usize = 0;
     while i < t.len() {
         byte(out, at, t[i]);
@@ -43,20 +43,20 @@ pub fn text(out: &mut [u8; 65536], at: &mut usize, t: &[u8]) {
     }
 }
 
-pub fn number(out: &mut [u8; 65536], at: &mut usize, n: u64) {
+pub fn number(out: &mut [u8; ROOM], at: &mut usize, n: u64) {
     let mut digits = [0u8; 20];
     let k = io::decimal(n, &mut digits);
     text(out, at, &digits[..k]);
 }
 
 // A space, and a number.
-pub fn more(out: &mut [u8; 65536], at: &mut usize, n: u64) {
+pub fn more(out: &mut [u8; ROOM], at: &mut usize, n: u64) {
     byte(out, at, b' ');
     number(out, at, n);
 }
 
 // A key with its sign.
-pub fn key(out: &mut [u8; 65536], at: &mut usize, k: Key) {
+pub fn key(out: &mut [u8; ROOM], at: &mut usize, k: Key) {
     let z = k.0;
     if signs::is_below_zero(z) {
         byte(out, at, b'-');
@@ -65,7 +65,7 @@ pub fn key(out: &mut [u8; 65536], at: &mut usize, k: Key) {
 }
 
 // A key and a value.
-pub fn entry(out: &mut [u8; 65536], at: &mut usize, e: Entry) {
+pub fn entry(out: &mut [u8; ROOM], at: &mut usize, e: Entry) {
     key(out, at, e.key);
     more(out, at, e.value);
 }

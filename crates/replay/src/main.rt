@@ -2,17 +2,21 @@
 // The script language is that of paired runs: the same script gives the same bytes from the Rust side.
 mod lines;
 
+use arena::words::STORE;
 use libc::STDERR_FILENO;
 use libc::STDIN_FILENO;
+use lines::LONGEST;
 use output::out;
+use output::out::ROOM;
+use script::table::TABLE;
 
 // Reads one part of the input and serves it. Answers whether there may be more.
 fn read_part(
-    line: &mut [u8; 128],
+    line: &mut [u8; LONGEST],
     held: &mut usize,
-    s: &mut [u64; 10256],
-    t: &mut [u64; 17409],
-    o: &mut [u8; 65536],
+    s: &mut [u64; STORE],
+    t: &mut [u64; TABLE],
+    o: &mut [u8; ROOM],
     at: &mut usize,
 ) -> bool {
     let mut part = io::large_buffer();
@@ -30,11 +34,11 @@ fn read_part(
 
 // Reads to the end of the input. Each part has a byte at least, so the count of parts can't run out.
 fn read_all(
-    line: &mut [u8; 128],
+    line: &mut [u8; LONGEST],
     held: &mut usize,
-    s: &mut [u64; 10256],
-    t: &mut [u64; 17409],
-    o: &mut [u8; 65536],
+    s: &mut [u64; STORE],
+    t: &mut [u64; TABLE],
+    o: &mut [u8; ROOM],
     at: &mut usize,
 ) {
     let mut parts: u64 = 18446744073709551615;
@@ -47,11 +51,11 @@ fn read_all(
 }
 
 fn main() {
-    let mut line = [0u8; 128];
+    let mut line = [0u8; LONGEST];
     let mut held: usize = 0;
     // Zeros are no laid out store: until the first `new` every call finds that its header fails.
-    let mut s = [0u64; 10256];
-    let mut t = [0u64; 17409];
+    let mut s = [0u64; STORE];
+    let mut t = [0u64; TABLE];
     let mut o = io::large_buffer();
     let mut at: usize = 0;
     read_all(&mut line, &mut held, &mut s, &mut t, &mut o, &mut at);

@@ -18,12 +18,14 @@ use listing::chain_length;
 use listing::key_and_value;
 use listing::rank;
 use output::out;
+use output::out::ROOM;
 use queue::cursor::Cursor;
 use queue::cursor::Moved;
 use script::table;
+use script::table::TABLE;
 
 // Dumps into the buffer, where the header passes. Answers whether it does.
-pub fn dump(s: &[u64], t: &[u64; 17409], o: &mut [u8; 65536], at: &mut usize) -> bool {
+pub fn dump(s: &[u64], t: &[u64; TABLE], o: &mut [u8; ROOM], at: &mut usize) -> bool {
     let h = header::test(s);
     match h {
         Header::Passes(cap) => {
@@ -36,7 +38,7 @@ pub fn dump(s: &[u64], t: &[u64; 17409], o: &mut [u8; 65536], at: &mut usize) ->
 }
 
 // `dump LIVE root N first N last N`
-fn ends(s: &[u64], cap: u64, t: &[u64; 17409], o: &mut [u8; 65536], at: &mut usize)
+fn ends(s: &[u64], cap: u64, t: &[u64; TABLE], o: &mut [u8; ROOM], at: &mut usize)
     requires { ⌜ Room (now s) cap ⌝ }
 {
     let root = words::head(s, ROOT);
@@ -54,7 +56,7 @@ fn ends(s: &[u64], cap: u64, t: &[u64; 17409], o: &mut [u8; 65536], at: &mut usi
 }
 
 // A space, and the number of the insertion whose entry is in a slot, or `-` for no slot.
-fn link(t: &[u64; 17409], o: &mut [u8; 65536], at: &mut usize, slot: u64) {
+fn link(t: &[u64; TABLE], o: &mut [u8; ROOM], at: &mut usize, slot: u64) {
     if slot == Handle::NO_SLOT {
         out::text(o, at, b" -");
     } else {
@@ -62,7 +64,7 @@ fn link(t: &[u64; 17409], o: &mut [u8; 65536], at: &mut usize, slot: u64) {
     }
 }
 
-fn dump_entries(s: &[u64], cap: u64, t: &[u64; 17409], o: &mut [u8; 65536], at: &mut usize)
+fn dump_entries(s: &[u64], cap: u64, t: &[u64; TABLE], o: &mut [u8; ROOM], at: &mut usize)
     requires { ⌜ Room (now s) cap ⌝ }
 {
     let mut left = cap;
@@ -78,7 +80,7 @@ fn dump_entries(s: &[u64], cap: u64, t: &[u64; 17409], o: &mut [u8; 65536], at: 
 }
 
 // `N KEY VALUE RANK BACK LEFT RIGHT PREV NEXT`
-fn dump_entry(s: &[u64], cap: u64, h: Handle, t: &[u64; 17409], o: &mut [u8; 65536], at: &mut usize)
+fn dump_entry(s: &[u64], cap: u64, h: Handle, t: &[u64; TABLE], o: &mut [u8; ROOM], at: &mut usize)
     requires { ⌜ Room (now s) cap ⌝ }
 {
     let i = h.slot.0;
@@ -90,7 +92,7 @@ fn dump_entry(s: &[u64], cap: u64, h: Handle, t: &[u64; 17409], o: &mut [u8; 655
     out::byte(o, at, b'\n');
 }
 
-fn links(s: &[u64], cap: u64, i: u64, t: &[u64; 17409], o: &mut [u8; 65536], at: &mut usize)
+fn links(s: &[u64], cap: u64, i: u64, t: &[u64; TABLE], o: &mut [u8; ROOM], at: &mut usize)
     requires { ⌜ Room (now s) cap ⌝ }
 {
     if i < cap {

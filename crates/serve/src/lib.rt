@@ -4,16 +4,19 @@ mod dumping;
 
 use answers::answer::Answer;
 use answers::answer::write;
+use arena::words::STORE;
 use commands::looking;
 use commands::placing;
 use handle::Refusal;
+use output::out::ROOM;
 use script::command::Command;
+use script::table::TABLE;
 
 pub fn respond(
     c: Command,
-    s: &mut [u64; 10256],
-    t: &mut [u64; 17409],
-    o: &mut [u8; 65536],
+    s: &mut [u64; STORE],
+    t: &mut [u64; TABLE],
+    o: &mut [u8; ROOM],
     at: &mut usize,
 ) {
     match c {
@@ -33,14 +36,14 @@ pub fn respond(
 }
 
 // Where the header fails, nothing is written but the refusal.
-fn refuse_unless(is_passed: bool, o: &mut [u8; 65536], at: &mut usize) {
+fn refuse_unless(is_passed: bool, o: &mut [u8; ROOM], at: &mut usize) {
     if !is_passed {
         write(o, at, Answer::Refused(Refusal::NotSound));
     }
 }
 
 // The commands that change the queue, and those that are none.
-fn change(c: Command, s: &mut [u64; 10256], t: &mut [u64; 17409]) -> Answer {
+fn change(c: Command, s: &mut [u64; STORE], t: &mut [u64; TABLE]) -> Answer {
     match c {
         Command::Nothing => Answer::Nothing,
         Command::Bad => Answer::BadLine,
@@ -53,7 +56,7 @@ fn change(c: Command, s: &mut [u64; 10256], t: &mut [u64; 17409]) -> Answer {
 }
 
 // The commands that change nothing.
-fn look(c: Command, s: &[u64; 10256], t: &[u64; 17409]) -> Answer {
+fn look(c: Command, s: &[u64; STORE], t: &[u64; TABLE]) -> Answer {
     match c {
         Command::Ahead(place, key) => looking::ahead(s, t, place, key),
         Command::Get(n) => looking::get(s, t, n),

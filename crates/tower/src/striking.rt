@@ -1,6 +1,7 @@
 // Taking strikes out, by the sexton or by the clock, and looking at them: each call is told in one line.
 use crate::clock;
 use handle::Handle;
+use handle::LIMIT;
 use output::say;
 use queue::cursor::Cursor;
 use queue::cursor::Moved;
@@ -8,9 +9,6 @@ use queue::looking;
 use queue::taking;
 use remove::reading::Reading;
 use remove::removing::Removed;
-
-// No queue has more strikes.
-const MOST: u64 = 1024;
 
 // Takes out the strike that h names.
 pub fn take(s: &mut [u64], h: Handle) {
@@ -45,7 +43,8 @@ pub fn reached(s: &[u64], m: Moved) {
 
 // Steps through the queue by the cursor, to its end.
 pub fn step_through(s: &[u64]) {
-    let mut left = MOST;
+    // No queue has more strikes.
+    let mut left = LIMIT;
     let mut m = Cursor::first(s);
     while 0 < left {
         say::text(b"  ");
@@ -60,7 +59,7 @@ pub fn step_through(s: &[u64]) {
 
 // Strikes the first strike again and again, till none is left.
 pub fn strike_all(s: &mut [u64]) {
-    let mut left = MOST;
+    let mut left = LIMIT;
     while 0 < left {
         let m = Cursor::first(s);
         let Moved::At(c) = m else {
