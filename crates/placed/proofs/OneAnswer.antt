@@ -62,7 +62,7 @@ module _ {s : List ℕ} {q : Queue} (k : Holds s q) where
   cap = q .capacity
 
   same-capacity : (r : List ℕ × I.Inserted) (m : Inserted × Queue) → Inserts s cap r m → m .1 .capacity ≡ cap
-  same-capacity r m a = sym (a .holds .header .passes .capacity) ∙ a .keeps .heads CAPACITY (lit< tt) (λ z. omega arith) (λ z. omega arith) (λ z. omega arith) (λ z. omega arith) ∙ k .header .passes .capacity
+  same-capacity r m a = sym (a .holds .header .passes .capacity) ∙ a .keeps .heads CAPACITY (lit< tt) (λ z. omega arith) ∙ k .header .passes .capacity
 
   -- the promise has one answer and one store
   pub no-second : (r t : List ℕ × I.Inserted) (m : Inserted × Queue) → Inserts s cap r m → Inserts s cap t m → r ≡ t
