@@ -5,12 +5,12 @@ use mathlib.Core.Path.{_≡_, _∙_}
 use mathlib.Core.List.{List}
 use native.Mathlib.Omega.{arith}
 use Rattle.handle.specs.Numbers.{noSlot}
-use Rattle.arena.specs.Words.{Long, headWords, fields, field, put, head, putHead, PREV, NEXT, FIRST, LAST}
-use Rattle.arena.proofs.Laws.{length-put, length-putHead, field-same, field-slot, field-off, head-put, head-same, head-other, field-putHead}
-use Rattle.chain.specs.inner.Kept.{ChainOnly}
+use Rattle.arena.specs.Words.{Long, field, put, head, putHead, PREV, NEXT, FIRST, LAST}
+use Rattle.arena.specs.inner.Only.{Only, AnyField, AnyHead}
+use Rattle.arena.proofs.Laws.{length-put, room-put, length-putHead, field-same, field-slot, field-off, head-same, head-other, field-putHead}
+use Rattle.arena.proofs.Only.{only-trans, only-room, only-put, only-putHead}
 use Rattle.chain.specs.inner.Links.{hooked, linkAlone, between, linkBeside, joined, neighbours, unlinkSlot}
-use Rattle.chain.proofs.Keeps.{only-trans, only-put, only-putHead, field-other, room-put}
-use Rattle.chain.proofs.Hooks.{hooked-only, hooked-at, hooked-field, hooked-end, hooked-head, hooked-heads}
+use Rattle.chain.proofs.Hooks.{only-hooked, hooked-at, hooked-field, hooked-end, hooked-head}
 
 -- the model, once the neighbour has a name
 pub beside-is : (s : List ℕ) (cap i p d q : ℕ) → field s cap p (PREV + d) ≡ q → linkBeside s cap i p d ≡ between s cap i p q d
@@ -18,39 +18,14 @@ unfolding linkBeside
 beside-is s cap i p d q e = rw e
 
 module _ (s : List ℕ) (cap i p q d : ℕ) (hi : i < cap) (hp : p < cap) (hd : d ≤ 1) where
-  pub between-only : ChainOnly s (between s cap i p q d) cap
+  -- what is written: PREV and NEXT of i, p's neighbour on side d, and q's away from it, or the end on side d where q is no slot
+  pub between-only : {W : ℕ → ℕ → Type 0} {H : ℕ → Type 0} → ((g : ℕ) → PREV ≤ g → g ≤ NEXT → W i g) → W p (PREV + d) → (q < cap → W q (NEXT - d))
+      → (cap ≤ q → H (FIRST + d)) → Only s (between s cap i p q d) cap W H
   unfolding between
-  between-only =
-      only-trans _ _ _ _ (only-put _ _ _ _ _ hi (omega arith) (omega arith))
-      (only-trans _ _ _ _ (only-put _ _ _ _ _ hi (omega arith) (omega arith))
-      (only-trans _ _ _ _ (only-put _ _ _ _ _ hp (omega arith) (omega arith)) (hooked-only _ _ _ _ _ hd)))
-
-  -- the slots other than i: only p's neighbour on side d and q's away from it change
-  pub between-field : (j f : ℕ) → j < cap → f < fields → (j ≡ i → ⊥) → ((j ≡ p) × (f ≡ PREV + d) → ⊥) → ((j ≡ q) × (f ≡ NEXT - d) → ⊥)
-      → field (between s cap i p q d) cap j f ≡ field s cap j f
-  unfolding between
-  between-field j f hj hf ni np nq =
-      hooked-field _ _ _ _ _ hd j f hj hf nq
-      ∙ field-other _ _ _ _ _ hp (omega arith) j f hj hf np
-      ∙ field-slot _ _ _ _ _ hi (omega arith) j f hj hf ni
-      ∙ field-slot _ _ _ _ _ hi (omega arith) j f hj hf ni
-
-  -- the header's words other than the end on side d; all of them, where q is a slot
-  pub between-head : (h : ℕ) → h < headWords → (h ≡ FIRST + d → ⊥) → head (between s cap i p q d) h ≡ head s h
-  unfolding between
-  between-head h hh ne =
-      hooked-head _ _ _ _ _ hd h hh ne
-      ∙ head-put _ _ _ _ _ hp (omega arith) h hh
-      ∙ head-put _ _ _ _ _ hi (omega arith) h hh
-      ∙ head-put _ _ _ _ _ hi (omega arith) h hh
-
-  pub between-heads : q < cap → (h : ℕ) → h < headWords → head (between s cap i p q d) h ≡ head s h
-  unfolding between
-  between-heads l h hh =
-      hooked-heads _ _ _ _ _ hd l h hh
-      ∙ head-put _ _ _ _ _ hp (omega arith) h hh
-      ∙ head-put _ _ _ _ _ hi (omega arith) h hh
-      ∙ head-put _ _ _ _ _ hi (omega arith) h hh
+  between-only own near far end =
+      only-trans (only-put _ _ _ _ hi (omega arith) (own _ (omega arith) (omega arith)))
+      (only-trans (only-put _ _ _ _ hi (omega arith) (own _ (omega arith) (omega arith)))
+      (only-trans (only-put _ _ _ _ hp (omega arith) near) (only-hooked _ _ _ _ _ hd far end)))
 
   -- i's own neighbours: q on side d, and p on the other
   pub between-near : Long s cap → (i ≡ p → ⊥) → field (between s cap i p q d) cap i (PREV + d) ≡ q
@@ -93,20 +68,12 @@ module _ (s : List ℕ) (cap i p q d : ℕ) (hi : i < cap) (hp : p < cap) (hd : 
   between-end room l = hooked-end _ _ _ _ _ hd (room-put _ _ _ _ _ (room-put _ _ _ _ _ (room-put _ _ _ _ _ room))) l
 
 module _ (s : List ℕ) (cap i : ℕ) (hi : i < cap) where
-  pub alone-only : ChainOnly s (linkAlone s cap i) cap
+  -- what is written: PREV and NEXT of i, and both ends
+  pub alone-only : {W : ℕ → ℕ → Type 0} {H : ℕ → Type 0} → W i PREV → W i NEXT → H FIRST → H LAST → Only s (linkAlone s cap i) cap W H
   unfolding linkAlone
-  alone-only =
-      only-trans _ _ _ _ (only-put _ _ _ _ _ hi (omega arith) (omega arith))
-      (only-trans _ _ _ _ (only-put _ _ _ _ _ hi (omega arith) (omega arith))
-      (only-trans _ _ _ _ (only-putHead _ _ _ _ (omega arith) (omega arith)) (only-putHead _ _ _ _ (omega arith) (omega arith))))
-
-  pub alone-field : (j f : ℕ) → j < cap → f < fields → (j ≡ i → ⊥) → field (linkAlone s cap i) cap j f ≡ field s cap j f
-  unfolding linkAlone
-  alone-field j f hj hf ne =
-      field-putHead _ _ _ (omega arith) _ j f hj hf
-      ∙ field-putHead _ _ _ (omega arith) _ j f hj hf
-      ∙ field-slot _ _ _ _ _ hi (omega arith) j f hj hf ne
-      ∙ field-slot _ _ _ _ _ hi (omega arith) j f hj hf ne
+  alone-only a b f l =
+      only-trans (only-put _ _ _ _ hi (omega arith) a)
+      (only-trans (only-put _ _ _ _ hi (omega arith) b) (only-trans (only-putHead _ _ _ (omega arith) f) (only-putHead _ _ _ (omega arith) l)))
 
   -- no neighbour on either side, and both ends
   pub alone-near : Long s cap → (d : ℕ) → d ≤ 1 → field (linkAlone s cap i) cap i (PREV + d) ≡ noSlot
@@ -143,17 +110,13 @@ unlink-is s cap i p q e f = rw (e, f)
 
 module _ (s : List ℕ) (cap p q : ℕ) where
   room-hooked : Long s cap → Long (hooked s cap p q 0) cap
-  room-hooked room = omega (arith, hooked-only s cap p q 0 (omega arith) .long)
+  room-hooked room = only-room (only-hooked s cap p q 0 (omega arith) {W = AnyField} {H = AnyHead} (λ l. tt) (λ l. tt)) room
 
-  pub joined-only : ChainOnly s (joined s cap p q) cap
+  -- what is written: p's next and q's prev, and the end on a side where there is no slot
+  pub joined-only : {W : ℕ → ℕ → Type 0} {H : ℕ → Type 0} → (p < cap → W p NEXT) → (q < cap → W q PREV) → (cap ≤ p → H FIRST) → (cap ≤ q → H LAST)
+      → Only s (joined s cap p q) cap W H
   unfolding joined
-  joined-only = only-trans _ _ _ _ (hooked-only _ _ _ _ 0 (omega arith)) (hooked-only _ _ _ _ 1 (omega arith))
-
-  -- every place but p's next and q's prev, so i's own words too
-  pub joined-field : (j f : ℕ) → j < cap → f < fields → ((j ≡ p) × (f ≡ NEXT) → ⊥) → ((j ≡ q) × (f ≡ PREV) → ⊥)
-      → field (joined s cap p q) cap j f ≡ field s cap j f
-  unfolding joined
-  joined-field j f hj hf np nq = hooked-field _ _ _ _ 1 (omega arith) j f hj hf nq ∙ hooked-field _ _ _ _ 0 (omega arith) j f hj hf np
+  joined-only a b f l = only-trans (only-hooked _ _ _ _ 0 (omega arith) a f) (only-hooked _ _ _ _ 1 (omega arith) b l)
 
   -- p's next is q and q's prev is p; where one of them is no slot, the end on its side is the other
   pub joined-next : Long s cap → p < cap → field (joined s cap p q) cap p NEXT ≡ q
@@ -174,12 +137,3 @@ module _ (s : List ℕ) (cap p q : ℕ) where
   pub joined-last : Long s cap → cap ≤ q → head (joined s cap p q) LAST ≡ p
   unfolding joined
   joined-last room l = hooked-end (hooked s cap p q 0) _ _ _ 1 (omega arith) (room-hooked room) l
-
-  -- an end stays where there is a neighbour on its side
-  pub joined-first-kept : p < cap → head (joined s cap p q) FIRST ≡ head s FIRST
-  unfolding joined
-  joined-first-kept l = hooked-head _ _ _ _ 1 (omega arith) FIRST (omega arith) (λ e. omega arith) ∙ hooked-heads _ _ _ _ 0 (omega arith) l FIRST (omega arith)
-
-  pub joined-last-kept : q < cap → head (joined s cap p q) LAST ≡ head s LAST
-  unfolding joined
-  joined-last-kept l = hooked-heads _ _ _ _ 1 (omega arith) l LAST (omega arith) ∙ hooked-head _ _ _ _ 0 (omega arith) LAST (omega arith) (λ e. omega arith)

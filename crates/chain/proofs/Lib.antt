@@ -1,5 +1,4 @@
 pub mod Answers
-pub mod Keeps
 pub mod Hooks
 pub mod Laws
 pub mod StepLaws

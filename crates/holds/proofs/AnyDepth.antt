@@ -9,7 +9,11 @@ use native.Mathlib.Omega.{arith}
 use lib.Dec.{lit<}
 use Rattle.handle.specs.Numbers.{noSlot}
 use Rattle.arena.specs.Words.{Long, head, ROOT}
+use Rattle.arena.specs.inner.Only.{Only, NoHead}
+use Rattle.arena.proofs.Only.{only-trans, only-room, only-weaken}
 use Rattle.tree.specs.inner.Links.{relinked, withChild}
+use Rattle.tree.specs.inner.Kept.{IsRoot}
+use Rattle.tree.proofs.Keeps.{only-child}
 use Rattle.wavl.specs.Lists.{In}
 use Rattle.wavl.specs.Entry.{slots}
 use Rattle.wavl.specs.Tree.{left, Tree, tip, fork, inorder}
@@ -18,14 +22,11 @@ use Rattle.wavl.proofs.Order.{IsFork}
 use Rattle.holds.specs.Ends.{topSlot, number}
 use Rattle.holds.specs.Links.{Links, TreeWords}
 use Rattle.holds.specs.inner.Ways.{parent, sideIn}
-use Rattle.holds.specs.inner.Writes.{Only}
 use Rattle.holds.proofs.Has.{Has, Distinct, has-top}
 use Rattle.holds.proofs.Trees.{number-small, LinkOf, SameLinks, slot-low}
 use Rattle.holds.proofs.Ways.{unplugged, HasWay, has-plug, has-way, way-apart}
-use Rattle.holds.proofs.Writes.{only-trans, only-weaken, only-child, only-room}
 use Rattle.holds.proofs.Groups.{same-links}
 use Rattle.holds.proofs.WayWrites.{way-stays, hook-stays, one-sided, relinked-is, raised, regrown}
-use Rattle.holds.proofs.Reshaped.{IsRoot}
 
 -- t holds the tree, and differs from s in links of the slots l and in ROOT alone
 pub record Regrown (s t : List ℕ) (cap : ℕ) (l : List ℕ) (x : Tree) : Type 0 where
@@ -43,11 +44,7 @@ pub came : {s t : List ℕ} {cap : ℕ} {l : List ℕ} {x : Tree} → Regrown s 
 came a = record { yes = refl; words = a .words; only = a .only }
 
 pub came-on : {s t : List ℕ} {cap : ℕ} {l : List ℕ} {x y : Tree} {r : List ℕ × Bool} → Regrown s t cap l x → Came t cap l y r → Came s cap l y r
-came-on {s} {t} {cap} {l} a b = record { yes = b .yes; words = b .words; only = only-trans cap (LinkOf l) IsRoot s t _ (a .only) (b .only) }
-
--- no header word
-abbrev pub NoHead : ℕ → Type 0
-NoHead h = ⊥
+came-on {s} {t} {cap} {l} a b = record { yes = b .yes; words = b .words; only = only-trans (a .only) (b .only) }
 
 -- a parent is no slot of what hangs below it
 no-parent : (s : List ℕ) (cap : ℕ) (p : Way) (x y : Tree) → cap ≤ noSlot → Distinct (plug x p) → ((j : ℕ) → Has j y → Has j x) → Links s cap (parent p) y → ¬ (Has (parent p) y)
@@ -58,7 +55,7 @@ module _ (s s₁ : List ℕ) (cap : ℕ) (l : List ℕ) (p : Way) (x y : Tree) (
     (within : (j : ℕ) → Has j (plug x p) → In j l) (T : TreeWords s cap (plug x p)) (same : inorder y ≡ inorder x)
     (o : Only s s₁ cap (LinkOf (slots (inorder x))) NoHead) (new : Links s₁ cap (parent p) y) where
   room₁ : Long s₁ cap
-  room₁ = only-room cap (LinkOf (slots (inorder x))) NoHead s s₁ o room
+  room₁ = only-room o room
 
   keep : (j : ℕ) → j < cap → HasWay j p → SameLinks s s₁ cap j
   keep j lj h = same-links s s₁ cap (LinkOf (slots (inorder x))) NoHead o j lj (λ g f w. way-apart p x D j (w .slot-in) h)
@@ -68,8 +65,7 @@ module _ (s s₁ : List ℕ) (cap : ℕ) (l : List ℕ) (p : Way) (x y : Tree) (
 
   only₁ : Only s s₁ cap (LinkOf l) IsRoot
   only₁ =
-      only-weaken s s₁ cap (LinkOf (slots (inorder x))) (LinkOf l) NoHead IsRoot
-      (λ j g w. record { slot-in = within j (has-plug j p x (w .slot-in)); field-is = w .field-is }) (λ h z. absurd z) o
+      only-weaken (λ j g hj w. record { slot-in = within j (has-plug j p x (w .slot-in)); field-is = w .field-is }) (λ h z. absurd z) o
 
   -- y has x's top
   pub raised-at : topSlot y ≡ topSlot x → Regrown s s₁ cap l (plug y p)
@@ -86,7 +82,7 @@ module _ (s s₁ : List ℕ) (cap : ℕ) (l : List ℕ) (p : Way) (x y : Tree) (
       (one-sided cap p x (topSlot x) few D h low) in
       record {
         words = regrown s s₁ cap p x y few room₁ D T keep root new (no-parent s₁ cap p x y few D (λ j z. rw same at z) new) h low;
-        only = only-trans cap (LinkOf l) IsRoot s s₁ _ only₁ (rw is (hooked p (λ j z. within j (has-way j p x z))));
+        only = only-trans only₁ (rw is (hooked p (λ j z. within j (has-way j p x z))));
       }
     where
       top-in : (t : Tree) → IsFork t → Has (topSlot t) t
@@ -94,8 +90,8 @@ module _ (s s₁ : List ℕ) (cap : ℕ) (l : List ℕ) (p : Way) (x y : Tree) (
       top-in (fork a e r b) z = has-top a e r b left (e .slot) refl
 
       hooked : (w : Way) → ((j : ℕ) → HasWay j w → In j l) → Only s₁ (withChild s₁ cap (parent w) (sideIn w) (topSlot y)) cap (LinkOf l) IsRoot
-      hooked [] i = only-child cap (LinkOf l) IsRoot s₁ noSlot 0 (topSlot y) (omega arith) (λ z. absurd (omega arith)) (λ z. refl)
+      hooked [] i = only-child s₁ noSlot 0 (topSlot y) (omega arith) (λ z. absurd (omega arith)) (λ z. refl)
       hooked (step c e r u ∷ w) i =
           let m = number-small c in
-          only-child cap (LinkOf l) IsRoot s₁ (e .slot) (number c) (topSlot y) m
+          only-child s₁ (e .slot) (number c) (topSlot y) m
           (λ z. record { slot-in = i (e .slot) (inl refl); field-is = record { from = omega arith; to = omega arith } }) (λ z. refl)

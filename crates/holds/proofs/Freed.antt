@@ -10,17 +10,16 @@ use lib.ListN.{length}
 use Rattle.handle.specs.Numbers.{noSlot}
 use Rattle.arena.specs.Words.{Long, field, put, head, KEY, LEFT, RIGHT, RANK, BACK, PREV, NEXT, GENERATION, VALUE, STACK, TOP, HEIGHT}
 use Rattle.arena.specs.inner.Laying.{unlinked, blankOf}
+use Rattle.arena.specs.inner.Only.{Only, IsHeight}
 use Rattle.arena.specs.inner.Slots.{pushed, freeWith, freeSlot}
 use Rattle.arena.specs.declared.slots.Freed as F
 use Rattle.arena.proofs.Laws.{lit≢, length-put, field-at, field-same, field-off, head-same, field-putHead}
+use Rattle.arena.proofs.Only.{only-pushed}
 use Rattle.wavl.specs.Lists.{All, In}
 use Rattle.rules.specs.Queue.{Handle, handle}
 use Rattle.rules.specs.Sound.{freeSlots, Under}
 use Rattle.holds.specs.Free.{Blank, FreeAt, FreeStack, Retired}
-use Rattle.holds.specs.inner.Writes.{Only}
-use Rattle.holds.proofs.Writes.{only-trans, only-put, only-putHead}
 use Rattle.holds.proofs.Groups.{free-words-stay}
-use Rattle.holds.proofs.Stack.{IsHeight}
 
 -- a slot without an entry
 module _ (s : List ℕ) (cap i b : ℕ) (hi : i < cap) where
@@ -41,21 +40,6 @@ module _ (s : List ℕ) (cap i b : ℕ) (hi : i < cap) where
     value-is = simp (field-at cap (length s) room, field-off, length-put, lit<, lit≢, tt {0});
   }
 
-  -- the fields that are written: all but GENERATION and STACK
-  pub blank-only : (W : ℕ → ℕ → Type 0) (H : ℕ → Type 0) → ((g : ℕ) → g < STACK → ¬ (g ≡ GENERATION) → W i g) → Only s (blankOf s cap i b) cap W H
-  unfolding blankOf unlinked
-  blank-only W H w =
-      only-trans cap W H _ _ _ (write s KEY 0 (lit< tt) (λ e. omega arith))
-      (only-trans cap W H _ _ _ (write _ VALUE 0 (lit< tt) (λ e. omega arith))
-      (only-trans cap W H _ _ _ (write _ LEFT noSlot (lit< tt) (λ e. omega arith))
-      (only-trans cap W H _ _ _ (write _ RIGHT noSlot (lit< tt) (λ e. omega arith))
-      (only-trans cap W H _ _ _ (write _ RANK 0 (lit< tt) (λ e. omega arith))
-      (only-trans cap W H _ _ _ (write _ BACK b (lit< tt) (λ e. omega arith))
-      (only-trans cap W H _ _ _ (write _ PREV noSlot (lit< tt) (λ e. omega arith)) (write _ NEXT noSlot (lit< tt) (λ e. omega arith))))))))
-    where
-      write : (t : List ℕ) (f v : ℕ) → f < STACK → ¬ (f ≡ GENERATION) → Only t (put t cap i f v) cap W H
-      write t f v hf n = only-put cap W H t i f v hi (omega arith) (w f hf n)
-
 -- "Removal raises it by one and frees the slot."
 module _ (s : List ℕ) (cap i h top g : ℕ) (eh : head s HEIGHT ≡ h) (et : head s TOP ≡ top) (eg : field s cap i GENERATION ≡ g) where
   pub free-again : g < top → h < cap → freeSlot s cap i ≡ (pushed s cap i h g, F.the-variants.Again)
@@ -71,10 +55,9 @@ pub retire : (s : List ℕ) (cap i top : ℕ) → i < cap → Long s cap → fie
 unfolding blankOf unlinked
 retire s cap i top hi room e = record { blank = blank-new s cap i noSlot hi room; generation-is = simp (field-off, lit<, lit≢, tt {0}) e }
 
--- the place h of the stack, and the slot i
-pub data PushedAt (i h j g : ℕ) : Type 0 where
-  own : j ≡ i → g < STACK → PushedAt i h j g
-  stacked : j ≡ h → g ≡ STACK → PushedAt i h j g
+-- the slot i, and the place h of the stack
+abbrev pub PushedAt : ℕ → ℕ → ℕ → ℕ → Type 0
+PushedAt i h j g = (g < STACK → j ≡ i) × (g ≡ STACK → j ≡ h)
 
 module _ (s : List ℕ) (cap i h g : ℕ) (hi : i < cap) (hh : h < cap) where
   abbrev pa : List ℕ
@@ -85,13 +68,6 @@ module _ (s : List ℕ) (cap i h g : ℕ) (hi : i < cap) (hh : h < cap) where
 
   abbrev pc : List ℕ
   pc = put pb cap h STACK i
-
-  pub pushed-only : (W : ℕ → ℕ → Type 0) (H : ℕ → Type 0) → ((j f : ℕ) → PushedAt i h j f → W j f) → H HEIGHT → Only s (pushed s cap i h g) cap W H
-  unfolding pushed
-  pushed-only W H w k =
-      only-trans cap W H s pa _ (blank-only s cap i h hi W H (λ f l n. w i f (own refl l)))
-      (only-trans cap W H pa pb _ (only-put cap W H pa i GENERATION (g + 1) hi (lit< tt) (w i GENERATION (own refl (lit< tt))))
-      (only-trans cap W H pb pc _ (only-put cap W H pb h STACK i hh (lit< tt) (w h STACK (stacked refl refl))) (only-putHead cap W H pc HEIGHT (h + 1) (lit< tt) k)))
 
   room-pb : Long s cap → Long pb cap
   room-pb room = rw (length-put pa cap i GENERATION (g + 1), length-blank s cap i h hi) room
@@ -130,22 +106,9 @@ unfolding pushed
 push-first s cap i g l hi room few low new w =
     let h = length l in
     let t = pushed s cap i h g in
-    let W = PushedAt i h in
-    let o = pushed-only s cap i h g hi few W IsHeight (λ j f x. x) refl in
+    let o : Only s t cap (PushedAt i h) IsHeight = only-pushed s i h g hi few (λ f z. (λ y. refl, λ y. omega arith)) (λ y. omega arith, λ y. refl) refl in
     record {
       height = head-same (pc s cap i h g hi few) HEIGHT (h + 1) (lit< tt) (let e = length-put (pb s cap i h g hi few) cap h STACK i in let z = room-pb s cap i h g hi few room in omega arith) ∙ omega arith;
-      stacked = (pushed-at s cap i h g hi few room, free-words-stay s t cap W IsHeight o l (omega arith) low (λ p x. off p x) (λ j x f y. own-off j x f y) (w .stacked));
-      unused = λ p x y. o .slots p STACK y (lit< tt) (high p x) ∙ w .unused p (omega arith) y;
+      stacked = (pushed-at s cap i h g hi few room, free-words-stay s t cap (PushedAt i h) IsHeight o l (omega arith) low (λ p x z. let e = z .1 refl in omega arith) (λ j x f y z. new (rw (z .0 y) at x)) (w .stacked));
+      unused = λ p x y. o .slots p STACK y (lit< tt) (λ z. let e = z .1 refl in omega arith) ∙ w .unused p (omega arith) y;
     }
-  where
-    off : (p : ℕ) → p < length l → ¬ (PushedAt i (length l) p STACK)
-    off p x (own e z) = omega arith
-    off p x (stacked e z) = omega arith
-
-    high : (p : ℕ) → suc (length l) ≤ p → ¬ (PushedAt i (length l) p STACK)
-    high p x (own e z) = omega arith
-    high p x (stacked e z) = omega arith
-
-    own-off : (j : ℕ) → In j (freeSlots l) → (f : ℕ) → f < STACK → ¬ (PushedAt i (length l) j f)
-    own-off j x f y (own e z) = new (rw e at x)
-    own-off j x f y (stacked e z) = omega arith

@@ -9,6 +9,7 @@ use lib.Dec.{lit<}
 use lib.ListN.{length}
 use Rattle.arena.specs.Words.{field, KEY, LEFT, RIGHT, RANK, BACK, PREV, NEXT, GENERATION, VALUE, STACK, CAPACITY, HEIGHT, FIRST, LAST, ROOT}
 use Rattle.arena.specs.Header.{Passing}
+use Rattle.arena.specs.inner.Only.{Only}
 use Rattle.wavl.specs.Lists.{All, In}
 use Rattle.wavl.specs.Entry.{Entry, slots}
 use Rattle.wavl.specs.Tree.{Tree}
@@ -19,7 +20,6 @@ use Rattle.holds.specs.Chain.{Chain, ChainWords}
 use Rattle.holds.specs.Entries.{EntryWords, AllEntries}
 use Rattle.holds.specs.Free.{Blank, FreeWords, FreeStack, Retired, AllRetired}
 use Rattle.holds.specs.Holds.{Unused}
-use Rattle.holds.specs.inner.Writes.{Only}
 use Rattle.holds.proofs.Has.{Has}
 use Rattle.holds.proofs.Trees.{LinkField, SameLinks, links-keep}
 

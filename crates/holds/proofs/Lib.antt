@@ -6,7 +6,6 @@ pub mod Trees
 pub mod Ways
 pub mod States
 pub mod Live
-pub mod Writes
 pub mod Groups
 pub mod WayWrites
 pub mod NodeWrites

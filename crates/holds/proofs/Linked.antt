@@ -7,9 +7,10 @@ use mathlib.Core.List.{List, [], _∷_, _++_, append-nil}
 use native.Mathlib.Omega.{arith}
 use lib.Dec.{lit<}
 use Rattle.handle.specs.Numbers.{noSlot}
-use Rattle.arena.specs.Words.{Long, fields, field, head, PREV, NEXT, FIRST, LAST}
+use Rattle.arena.specs.Words.{Long, field, head, PREV, NEXT, FIRST, LAST}
+use Rattle.arena.specs.inner.Only.{Only}
 use Rattle.chain.specs.inner.Links.{between, joined, linkAlone}
-use Rattle.chain.proofs.Laws.{between-near, between-far, between-at, between-back, between-end, between-field, between-head, between-heads, alone-field, alone-near, alone-end, joined-field, joined-next, joined-prev, joined-first, joined-last, joined-first-kept, joined-last-kept}
+use Rattle.chain.proofs.Laws.{between-only, between-near, between-far, between-at, between-back, between-end, alone-only, alone-near, alone-end, joined-only, joined-next, joined-prev, joined-first, joined-last}
 use Rattle.wavl.specs.Lists.{All, In, Differ, Once}
 use Rattle.wavl.specs.Entry.{Entry, slots}
 use Rattle.wavl.proofs.Lists.{all-left, all-right, all-in, pairwise-left, pairwise-right, pairwise-across, below-one, above-one}
@@ -20,7 +21,18 @@ use Rattle.holds.specs.Chain.{ChainWords}
 use Rattle.holds.proofs.Chains.{endOr, end-last}
 use Rattle.holds.proofs.Segments.{firstOr, Row, first-none, last-append, last-in-slots, row-of, chain-of, row-left, row-right, row-both, row-next, row-prev}
 
--- i was put in between a and b, each a slot or none
+-- what joins a and b, each a slot or none: a's NEXT and b's PREV; the end on a side where there is no slot
+abbrev pub JoinedAt : ℕ → ℕ → ℕ → ℕ → Type 0
+JoinedAt a b j g = (PREV ≤ g) × (g ≤ NEXT) × (g ≡ PREV → j ≡ b) × (g ≡ NEXT → j ≡ a)
+
+abbrev pub EndsAt : ℕ → ℕ → ℕ → ℕ → Type 0
+EndsAt cap a b h = (FIRST ≤ h) × (h ≤ LAST) × (h ≡ FIRST → cap ≤ a) × (h ≡ LAST → cap ≤ b)
+
+-- the same with i between them: its own PREV and NEXT too
+abbrev pub LinkedAt : ℕ → ℕ → ℕ → ℕ → ℕ → Type 0
+LinkedAt a i b j g = (PREV ≤ g) × (g ≤ NEXT) × (¬ (j ≡ i) → JoinedAt a b j g)
+
+-- i was put in between a and b
 pub record Linked (s t : List ℕ) (cap a i b : ℕ) : Type 0 where
   pub prev-is : field t cap i PREV ≡ a
   pub next-is : field t cap i NEXT ≡ b
@@ -28,9 +40,7 @@ pub record Linked (s t : List ℕ) (cap a i b : ℕ) : Type 0 where
   pub left-end : cap ≤ a → head t FIRST ≡ i
   pub right-prev : b < cap → field t cap b PREV ≡ i
   pub right-end : cap ≤ b → head t LAST ≡ i
-  pub first-kept : a < cap → head t FIRST ≡ head s FIRST
-  pub last-kept : b < cap → head t LAST ≡ head s LAST
-  pub others : (j g : ℕ) → j < cap → g < fields → ¬ (j ≡ i) → ¬ ((j ≡ a) × (g ≡ NEXT)) → ¬ ((j ≡ b) × (g ≡ PREV)) → field t cap j g ≡ field s cap j g
+  pub only : Only s t cap (LinkedAt a i b) (EndsAt cap a b)
 
 -- what stood between a and b was taken out
 pub record Unlinked (s t : List ℕ) (cap a b : ℕ) : Type 0 where
@@ -38,9 +48,7 @@ pub record Unlinked (s t : List ℕ) (cap a b : ℕ) : Type 0 where
   pub left-end : cap ≤ a → head t FIRST ≡ b
   pub right-prev : b < cap → field t cap b PREV ≡ a
   pub right-end : cap ≤ b → head t LAST ≡ a
-  pub first-kept : a < cap → head t FIRST ≡ head s FIRST
-  pub last-kept : b < cap → head t LAST ≡ head s LAST
-  pub others : (j g : ℕ) → j < cap → g < fields → ¬ ((j ≡ a) × (g ≡ NEXT)) → ¬ ((j ≡ b) × (g ≡ PREV)) → field t cap j g ≡ field s cap j g
+  pub only : Only s t cap (JoinedAt a b) (EndsAt cap a b)
 
 -- the writes of crate `chain`
 module _ (s : List ℕ) (cap i p q : ℕ) (room : Long s cap) (hi : i < cap) (hp : p < cap) (np : ¬ (i ≡ p)) (nq : ¬ (i ≡ q)) where
@@ -53,9 +61,7 @@ module _ (s : List ℕ) (cap i p q : ℕ) (room : Long s cap) (hi : i < cap) (hp
     left-end = λ l. absurd (omega arith);
     right-prev = between-back s cap i p q 1 hi hp (omega arith) room;
     right-end = between-end s cap i p q 1 hi hp (omega arith) room;
-    first-kept = λ l. between-head s cap i p q 1 hi hp (omega arith) FIRST (lit< tt) (λ e. omega arith);
-    last-kept = λ l. between-heads s cap i p q 1 hi hp (omega arith) l LAST (lit< tt);
-    others = λ j g hj hg n a b. between-field s cap i p q 1 hi hp (omega arith) j g hj hg n a b;
+    only = between-only s cap i p q 1 hi hp (omega arith) (λ g lo up. omega arith) (omega arith) (λ l. omega arith) (λ l. omega arith);
   }
 
   -- before p, behind q
@@ -67,9 +73,7 @@ module _ (s : List ℕ) (cap i p q : ℕ) (room : Long s cap) (hi : i < cap) (hp
     left-end = between-end s cap i p q 0 hi hp (omega arith) room;
     right-prev = λ l. between-at s cap i p q 0 hi hp (omega arith) room;
     right-end = λ l. absurd (omega arith);
-    first-kept = λ l. between-heads s cap i p q 0 hi hp (omega arith) l FIRST (lit< tt);
-    last-kept = λ l. between-head s cap i p q 0 hi hp (omega arith) LAST (lit< tt) (λ e. omega arith);
-    others = λ j g hj hg n a b. between-field s cap i p q 0 hi hp (omega arith) j g hj hg n b a;
+    only = between-only s cap i p q 0 hi hp (omega arith) (λ g lo up. omega arith) (omega arith) (λ l. omega arith) (λ l. omega arith);
   }
 
 pub alone-links : (s : List ℕ) (cap i : ℕ) → cap ≤ noSlot → Long s cap → i < cap → Linked s (linkAlone s cap i) cap noSlot i noSlot
@@ -80,9 +84,7 @@ alone-links s cap i few room hi = record {
   left-end = λ l. alone-end s cap i hi room 0 (omega arith);
   right-prev = λ l. absurd (omega arith);
   right-end = λ l. alone-end s cap i hi room 1 (omega arith);
-  first-kept = λ l. absurd (omega arith);
-  last-kept = λ l. absurd (omega arith);
-  others = λ j g hj hg n a b. alone-field s cap i hi j g hj hg n;
+  only = alone-only s cap i hi (omega arith) (omega arith) (omega arith) (omega arith);
 }
 
 pub joined-unlinks : (s : List ℕ) (cap a b : ℕ) → Long s cap → Unlinked s (joined s cap a b) cap a b
@@ -91,9 +93,7 @@ joined-unlinks s cap a b room = record {
   left-end = joined-first s cap a b room;
   right-prev = joined-prev s cap a b room;
   right-end = joined-last s cap a b room;
-  first-kept = joined-first-kept s cap a b;
-  last-kept = joined-last-kept s cap a b;
-  others = joined-field s cap a b;
+  only = joined-only s cap a b (λ l. omega arith) (λ l. omega arith) (λ l. omega arith) (λ l. omega arith);
 }
 
 -- the last of a part lies in the store, or there is none
@@ -169,16 +169,16 @@ module _ (s t : List ℕ) (cap : ℕ) (l : List Entry) (x : Entry) (m : List Ent
       row-l : Row t cap noSlot l (x .slot)
       row-l =
           row-next s t cap l noSlot _ (x .slot) once-l
-          (λ j a. K .others j PREV (at-l j a) (lit< tt) (l-not-x j a) (λ e. let z = e .1 in omega arith) (λ e. not-first m j (at-l j a) (l-not-m j a) (e .0)))
-          (λ j a n. K .others j NEXT (at-l j a) (lit< tt) (l-not-x j a) (λ e. n (e .0)) (λ e. let z = e .1 in omega arith))
+          (λ j a. K .only .slots j PREV (at-l j a) (lit< tt) (λ z. not-first m j (at-l j a) (l-not-m j a) (z .2 (l-not-x j a) .2 refl)))
+          (λ j a n. K .only .slots j NEXT (at-l j a) (lit< tt) (λ z. n (z .2 (l-not-x j a) .3 refl)))
           (λ j a e. rw e (K .left-next (rw e at (at-l j a))))
           (row-left s cap l m noSlot noSlot old)
 
       row-m : Row t cap (x .slot) m noSlot
       row-m =
           row-prev s t cap m (endOr noSlot l) (x .slot) noSlot once-m
-          (λ j a. K .others j NEXT (at-m j a) (lit< tt) (m-not-x j a) (λ e. not-last l j (at-m j a) (λ b. l-not-m j b a) (e .0)) (λ e. let z = e .1 in omega arith))
-          (λ j a n. K .others j PREV (at-m j a) (lit< tt) (m-not-x j a) (λ e. let z = e .1 in omega arith) (λ e. n (e .0)))
+          (λ j a. K .only .slots j NEXT (at-m j a) (lit< tt) (λ z. not-last l j (at-m j a) (λ b. l-not-m j b a) (z .2 (m-not-x j a) .3 refl)))
+          (λ j a n. K .only .slots j PREV (at-m j a) (lit< tt) (λ z. n (z .2 (m-not-x j a) .2 refl)))
           (λ j a e. rw e (K .right-prev (rw e at (at-m j a))))
           (row-right s cap l m noSlot noSlot old)
 
@@ -187,11 +187,11 @@ module _ (s t : List ℕ) (cap : ℕ) (l : List Entry) (x : Entry) (m : List Ent
 
       firsts : (l ≡ []) ⊎ (lastSlot l < cap) → head t FIRST ≡ firstSlot (l ++ (x ∷ m))
       firsts (inl e) = let h : cap ≤ lastSlot l = rw e few in K .left-end h ∙ rw e
-      firsts (inr h) = K .first-kept h ∙ c .first-is ∙ first-same l h
+      firsts (inr h) = K .only .heads FIRST (lit< tt) (λ z. let y = z .2 refl in omega arith) ∙ c .first-is ∙ first-same l h
 
       lasts : (m ≡ []) ⊎ (firstSlot m < cap) → head t LAST ≡ lastSlot (l ++ (x ∷ m))
       lasts (inl e) = let h : cap ≤ firstSlot m = rw e few in K .right-end h ∙ rw e (sym (last-append l x []))
-      lasts (inr h) = K .last-kept h ∙ c .last-is ∙ last-same m h
+      lasts (inr h) = K .only .heads LAST (lit< tt) (λ z. let y = z .3 refl in omega arith) ∙ c .last-is ∙ last-same m h
 
   pub chain-out : Unlinked s t cap (lastSlot l) (firstSlot m) → ChainWords s cap (l ++ (x ∷ m)) → ChainWords t cap (l ++ m)
   chain-out K c = record { first-is = firsts (last-low cap l low-l); last-is = lasts (none-or m low-m); chain = chain-of t cap (l ++ m) noSlot row }
@@ -202,16 +202,16 @@ module _ (s t : List ℕ) (cap : ℕ) (l : List Entry) (x : Entry) (m : List Ent
       row-l : Row t cap noSlot l (firstOr noSlot m)
       row-l =
           row-next s t cap l noSlot (x .slot) (firstOr noSlot m) once-l
-          (λ j a. K .others j PREV (at-l j a) (lit< tt) (λ e. let z = e .1 in omega arith) (λ e. not-first m j (at-l j a) (l-not-m j a) (e .0)))
-          (λ j a n. K .others j NEXT (at-l j a) (lit< tt) (λ e. n (e .0)) (λ e. let z = e .1 in omega arith))
+          (λ j a. K .only .slots j PREV (at-l j a) (lit< tt) (λ z. not-first m j (at-l j a) (l-not-m j a) (z .2 refl)))
+          (λ j a n. K .only .slots j NEXT (at-l j a) (lit< tt) (λ z. n (z .3 refl)))
           (λ j a e. rw e (K .left-next (rw e at (at-l j a))) ∙ sym (first-none m))
           (row-left s cap l (x ∷ m) noSlot noSlot old)
 
       row-m : Row t cap (endOr noSlot l) m noSlot
       row-m =
           row-prev s t cap m (x .slot) (endOr noSlot l) noSlot once-m
-          (λ j a. K .others j NEXT (at-m j a) (lit< tt) (λ e. not-last l j (at-m j a) (λ b. l-not-m j b a) (e .0)) (λ e. let z = e .1 in omega arith))
-          (λ j a n. K .others j PREV (at-m j a) (lit< tt) (λ e. let z = e .1 in omega arith) (λ e. n (e .0)))
+          (λ j a. K .only .slots j NEXT (at-m j a) (lit< tt) (λ z. not-last l j (at-m j a) (λ b. l-not-m j b a) (z .3 refl)))
+          (λ j a n. K .only .slots j PREV (at-m j a) (lit< tt) (λ z. n (z .2 refl)))
           (λ j a e. rw e (K .right-prev (rw e at (at-m j a))) ∙ sym (end-last l))
           (row-right s cap l (x ∷ m) noSlot noSlot old .1)
 
@@ -220,8 +220,8 @@ module _ (s t : List ℕ) (cap : ℕ) (l : List Entry) (x : Entry) (m : List Ent
 
       firsts : (l ≡ []) ⊎ (lastSlot l < cap) → head t FIRST ≡ firstSlot (l ++ m)
       firsts (inl e) = let h : cap ≤ lastSlot l = rw e few in K .left-end h ∙ rw e
-      firsts (inr h) = K .first-kept h ∙ c .first-is ∙ sym (first-same l h)
+      firsts (inr h) = K .only .heads FIRST (lit< tt) (λ z. let y = z .2 refl in omega arith) ∙ c .first-is ∙ sym (first-same l h)
 
       lasts : (m ≡ []) ⊎ (firstSlot m < cap) → head t LAST ≡ lastSlot (l ++ m)
       lasts (inl e) = let h : cap ≤ firstSlot m = rw e few in K .right-end h ∙ rw (e, append-nil l)
-      lasts (inr h) = K .last-kept h ∙ c .last-is ∙ sym (last-same m h)
+      lasts (inr h) = K .only .heads LAST (lit< tt) (λ z. let y = z .3 refl in omega arith) ∙ c .last-is ∙ sym (last-same m h)

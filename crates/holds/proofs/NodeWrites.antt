@@ -4,21 +4,19 @@ use Prim.Native.Nat.{ℕ, _+_, _-_, _≤_, _<_}
 use mathlib.Core.Path.{_≡_, refl, _∙_}
 use mathlib.Core.List.{List}
 use native.Mathlib.Omega.{arith}
-use native.Mathlib.Decide.{decLt}
-use borrow.Author.Tests.{lt-ltb, le-ltb}
-use lib.ListN.{length}
+use borrow.Author.Tests.{lt-ltb}
 use lib.Dec.{lit<}
 use Rattle.arena.specs.Words.{Long, fields, field, put, LEFT, RIGHT, RANK, BACK}
-use Rattle.arena.proofs.Laws.{length-put, field-same, field-off}
-use Rattle.chain.proofs.Keeps.{room-put}
+use Rattle.arena.proofs.Laws.{room-put, field-same, field-off}
+use Rattle.arena.proofs.Only.{only-put}
 use Rattle.tree.specs.inner.Links.{withBack, withNode}
+use Rattle.tree.proofs.Keeps.{only-back, only-node}
 use Rattle.wavl.specs.Entry.{Entry}
 use Rattle.wavl.specs.Tree.{Side, left, Tree, tip, fork, node}
 use Rattle.holds.specs.Ends.{topSlot, number}
 use Rattle.holds.specs.Links.{Node, Links}
 use Rattle.holds.proofs.Has.{Distinct, apart}
-use Rattle.holds.proofs.Trees.{number-small, opened, closed, Touch, carry, touch-trans}
-use Rattle.holds.proofs.WayWrites.{touch-put}
+use Rattle.holds.proofs.Trees.{number-small, opened, closed, Touch, carry}
 
 -- one word of a node
 module _ (s : List ℕ) (cap d back near i r far : ℕ) (hd : d ≤ 1) (room : Long s cap) (N : Node s cap d back near i r far) (v : ℕ) where
@@ -63,10 +61,6 @@ module _ (s : List ℕ) (cap d back near i r far : ℕ) (hd : d ≤ 1) (room : L
 
 -- a node written whole
 module _ (s : List ℕ) (cap d i back near far rank : ℕ) (hd : d ≤ 1) (hi : i < cap) where
-  pub length-node : length (withNode s cap d i back near far rank) ≡ length s
-  unfolding withNode
-  length-node = simp length-put
-
   pub node-new : Long s cap → Node (withNode s cap d i back near far rank) cap d back near i rank far
   unfolding withNode
   node-new room =
@@ -82,11 +76,7 @@ module _ (s : List ℕ) (cap d i back near far rank : ℕ) (hd : d ≤ 1) (hi : 
       (node-put-back s cap d _ _ i _ _ hd room (record { low = hi; back-is = refl; near-is = refl; far-is = refl; rank-is = refl }) back) near) far) rank
 
   pub touch-node : Touch s (withNode s cap d i back near far rank) cap i
-  unfolding withNode
-  touch-node =
-      touch-trans _ _ _ cap i (touch-put s cap i BACK back hi (omega arith))
-      (touch-trans _ _ _ cap i (touch-put _ cap i (LEFT + d) near hi (omega arith))
-      (touch-trans _ _ _ cap i (touch-put _ cap i (RIGHT - d) far hi (omega arith)) (touch-put _ cap i RANK rank hi (omega arith))))
+  touch-node = only-node s d i back near far rank hd hi (λ g lo up. refl)
 
 -- a back link, written where there is a slot
 module _ (s : List ℕ) (cap i b : ℕ) where
@@ -94,23 +84,8 @@ module _ (s : List ℕ) (cap i b : ℕ) where
   unfolding withBack
   back-at l = rw (lt-ltb i cap l)
 
-  pub back-none : cap ≤ i → withBack s cap i b ≡ s
-  unfolding withBack
-  back-none l = rw (le-ltb i cap l)
-
-  pub length-back : length (withBack s cap i b) ≡ length s
-  length-back = go (decLt i cap)
-    where
-      go : Dec (i < cap) → length (withBack s cap i b) ≡ length s
-      go (yes l) = rw (back-at l) (length-put s cap i BACK b)
-      go (no l) = let l′ : cap ≤ i = omega arith in rw (back-none l′)
-
   pub touch-back : Touch s (withBack s cap i b) cap i
-  touch-back = go (decLt i cap)
-    where
-      go : Dec (i < cap) → Touch s (withBack s cap i b) cap i
-      go (yes l) = rw (back-at l) (touch-put s cap i BACK b l (lit< tt))
-      go (no l) = let l′ : cap ≤ i = omega arith in rw (back-none l′) (λ j lj n g k. refl)
+  touch-back = only-back s i b (λ l. refl)
 
 -- the top of a tree has a new back link
 pub new-back : (s : List ℕ) (cap back c : ℕ) (x : Tree) → Long s cap → Distinct x → Links s cap back x → Links (withBack s cap (topSlot x) c) cap c x
@@ -132,6 +107,6 @@ new-rank s cap back d a e r b v room D l =
     let o = opened s cap d back a e r b l in
     let i = e .slot in
     let t = put s cap i RANK v in
-    let T = touch-put s cap i RANK v (o .0 .low) (lit< tt) in
+    let T : Touch s t cap i = only-put s i RANK v (o .0 .low) (lit< tt) refl in
     closed t cap d back a e v b (node-put-rank s cap (number d) back (topSlot a) i r (topSlot b) (number-small d) room (o .0) v)
     (carry s t cap i T a i (p .near) (o .1)) (carry s t cap i T b i (p .far) (o .2))

@@ -5,7 +5,9 @@ use mathlib.Core.Path.{_≡_, _∙_}
 use mathlib.Core.List.{List}
 use native.Mathlib.Omega.{arith}
 use lib.Dec.{lit<}
-use Rattle.arena.specs.Words.{PREV, TOP, ROOT}
+use Rattle.arena.specs.Words.{PREV, TOP}
+use Rattle.arena.specs.inner.Only.{Only}
+use Rattle.tree.specs.inner.Kept.{IsRoot}
 use Rattle.wavl.specs.Entry.{slots}
 use Rattle.wavl.specs.Tree.{Tree, inorder}
 use Rattle.wavl.proofs.Lists.{in-left}
@@ -13,13 +15,9 @@ use Rattle.rules.specs.Queue.{Queue, entries, changed}
 use Rattle.rules.specs.Sound.{freeSlots, usedSlots}
 use Rattle.holds.specs.Links.{TreeWords}
 use Rattle.holds.specs.Holds.{HeaderWords, Words}
-use Rattle.holds.specs.inner.Writes.{Only}
 use Rattle.holds.proofs.Parts.{Separate, used-few, live-low, free-low, free-not-live}
 use Rattle.holds.proofs.Trees.{LinkOf}
 use Rattle.holds.proofs.Groups.{passing-stays, unused-stays, chain-stays, entries-stay, stack-stays, all-retired-stay}
-
-abbrev pub IsRoot : ℕ → Type 0
-IsRoot h = h ≡ ROOT
 
 -- the header's words of a queue stay where neither CAPACITY nor TOP is written
 pub header-stays : (s t : List ℕ) (q : Queue) (W : ℕ → ℕ → Type 0) (H : ℕ → Type 0) → Only s t (q .capacity) W H → ((h : ℕ) → h ≤ TOP → ¬ (H h))

@@ -11,15 +11,15 @@ use lib.Dec.{lit<}
 use lib.ListN.{length}
 use Rattle.handle.specs.Numbers.{noSlot}
 use Rattle.arena.specs.Words.{Long, field, put, STACK, HEIGHT}
+use Rattle.arena.specs.inner.Only.{Only, IsHeight}
 use Rattle.arena.specs.inner.Slots.{handleOf, foundAt, peekFrom, peekSlot, popped, takeSlot}
 use Rattle.arena.specs.declared.slots.Taken as T
 use Rattle.arena.proofs.Laws.{length-put, field-same, head-same, field-putHead}
+use Rattle.arena.proofs.Only.{only-popped}
 use Rattle.wavl.specs.Lists.{All}
 use Rattle.rules.specs.Queue.{Handle}
 use Rattle.rules.specs.Sound.{freeSlots, Under}
 use Rattle.holds.specs.Free.{FreeStack}
-use Rattle.holds.specs.inner.Writes.{Only}
-use Rattle.holds.proofs.Writes.{only-trans, only-put, only-putHead}
 use Rattle.holds.proofs.Groups.{free-words-stay}
 
 -- "no slot is free"
@@ -41,18 +41,9 @@ module _ (s : List ℕ) (cap : ℕ) (h : Handle) (l : List Handle) (few : suc (l
   unfolding takeSlot
   take-first = let m : suc (length l) - 1 ≡ length l = omega arith in rw (peek-first, w .height, m)
 
-module _ (s : List ℕ) (cap p : ℕ) (W : ℕ → ℕ → Type 0) (H : ℕ → Type 0) where
-  -- the stack's top place and its height
-  pub popped-only : p < cap → W p STACK → H HEIGHT → Only s (popped s cap p) cap W H
-  unfolding popped
-  popped-only l w h = only-trans cap W H s (put s cap p STACK noSlot) _ (only-put cap W H s p STACK noSlot l (lit< tt) w) (only-putHead cap W H _ HEIGHT p (lit< tt) h)
-
--- the place p of the stack, or its height
+-- the place p of the stack
 abbrev pub PlaceOf : ℕ → ℕ → ℕ → Type 0
 PlaceOf p j g = (j ≡ p) × (g ≡ STACK)
-
-abbrev pub IsHeight : ℕ → Type 0
-IsHeight h = h ≡ HEIGHT
 
 -- the rest of the list, after its first handle is taken
 pub pop-rest : (s : List ℕ) (cap : ℕ) (h : Handle) (l : List Handle) → Long s cap → suc (length l) ≤ cap → All (Under cap) (freeSlots l)
@@ -69,7 +60,7 @@ pop-rest s cap h l room few low w =
     p = length l
 
     o : Only s (popped s cap p) cap (PlaceOf p) IsHeight
-    o = popped-only s cap p (PlaceOf p) IsHeight few (refl, refl) refl
+    o = only-popped s p few (refl, refl) refl
 
     go : (j : ℕ) → length l ≤ j → j < cap → Dec (j ≡ p) → field (popped s cap p) cap j STACK ≡ noSlot
     go j x y (yes e) =

@@ -6,6 +6,7 @@ use mathlib.Core.Logic.{_⊎_, ⊎-elim}
 use mathlib.Core.List.{List}
 use native.Mathlib.Omega.{arith}
 use Rattle.arena.specs.Words.{field, LEFT, RIGHT, RANK, BACK}
+use Rattle.arena.specs.inner.Only.{Only, NoHead}
 use Rattle.wavl.specs.Lists.{In}
 use Rattle.wavl.specs.Entry.{Entry, slots}
 use Rattle.wavl.specs.Tree.{Side, left, right, Tree, tip, fork, node, inorder}
@@ -73,13 +74,10 @@ module _ (s t : List ℕ) (cap : ℕ) where
 
   -- one slot alone is written: a tree without it stays
   abbrev pub Touch : ℕ → Type 0
-  Touch i = (j : ℕ) → j < cap → ¬ (j ≡ i) → SameLinks s t cap j
+  Touch i = Only s t cap (λ j g. j ≡ i) NoHead
 
   pub carry : (i : ℕ) → Touch i → (x : Tree) (back : ℕ) → ¬ (Has i x) → Links s cap back x → Links t cap back x
-  carry i T x back n = links-keep x back (λ j low h. T j low (λ e. n (rw e at h)))
+  carry i T x back n = links-keep x back (λ j low h g f. T .slots j g low (omega arith) (λ e. n (rw e at h)))
 
   pub carry-node : (i : ℕ) → Touch i → (d back near j r far : ℕ) → d ≤ 1 → ¬ (j ≡ i) → Node s cap d back near j r far → Node t cap d back near j r far
-  carry-node i T d back near j r far hd n x = node-keep d back near j r far hd (T j (x .low) n) x
-
-pub touch-trans : (s t u : List ℕ) (cap i : ℕ) → Touch s t cap i → Touch t u cap i → Touch s u cap i
-touch-trans s t u cap i f g j low n w k = g j low n w k ∙ f j low n w k
+  carry-node i T d back near j r far hd n x = node-keep d back near j r far hd (λ g f. T .slots j g (x .low) (omega arith) n) x

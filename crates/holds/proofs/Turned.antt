@@ -7,17 +7,18 @@ use mathlib.Core.List.{List}
 use native.Mathlib.Omega.{arith}
 use Rattle.handle.specs.Numbers.{noSlot}
 use Rattle.arena.specs.Words.{Long, LEFT, BACK}
+use Rattle.arena.specs.inner.Only.{Only}
+use Rattle.arena.proofs.Only.{only-trans, only-room}
 use Rattle.tree.specs.inner.Links.{withBack, withNode}
+use Rattle.tree.proofs.Keeps.{only-back, only-node}
 use Rattle.wavl.specs.Entry.{Entry}
 use Rattle.wavl.specs.Tree.{Side, left, Tree, tip, fork, node}
 use Rattle.holds.specs.Ends.{topSlot, number}
 use Rattle.holds.specs.Links.{Links}
 use Rattle.holds.proofs.Has.{Has, Distinct, Apart, apart, has-top, has-near, has-far}
 use Rattle.holds.proofs.Trees.{number-small, closed, slot-low, Touch, carry, carry-node}
-use Rattle.holds.specs.inner.Writes.{Only}
 use Rattle.holds.proofs.Ways.{top-node}
-use Rattle.holds.proofs.Writes.{only-trans, only-back, only-node}
-use Rattle.holds.proofs.NodeWrites.{node-new, touch-node, touch-back, length-node, length-back, new-back}
+use Rattle.holds.proofs.NodeWrites.{node-new, touch-node, touch-back, new-back}
 
 -- the top of a tree is in no tree apart from it
 pub top-off : (s : List ℕ) (cap b : ℕ) (c t : Tree) → cap ≤ noSlot → Links s cap b t → ((j : ℕ) → Has j c → ¬ (Has j t)) → ¬ (Has (topSlot c) t)
@@ -56,11 +57,11 @@ module _ (s : List ℕ) (cap back : ℕ) (d : Side) (u c e v : Tree) (y x z : En
       let m = number-small d in
       let near = has-near (node d u y r c) x k (node d e z r v) d in
       let far = has-far (node d u y r c) x k (node d e z r v) d in
-      only-trans cap W H s sa spread (only-back cap W H s (topSlot c) (y .slot) (λ l. w _ BACK (near _ (has-far u y r c d _ (top-has cap c few l))) (omega arith) (omega arith)))
-      (only-trans cap W H sa sb spread (only-back cap W H sa (topSlot e) (z .slot) (λ l. w _ BACK (far _ (has-near e z r v d _ (top-has cap e few l))) (omega arith) (omega arith)))
-      (only-trans cap W H sb sc spread (only-node cap W H sb (number d) (y .slot) (x .slot) (topSlot u) (topSlot c) r m ly (λ g. w _ g (near _ (has-top u y r c d _ refl))))
-      (only-trans cap W H sc sd spread (only-node cap W H sc (number d) (z .slot) (x .slot) (topSlot e) (topSlot v) r m lz (λ g. w _ g (far _ (has-top e z r v d _ refl))))
-      (only-node cap W H sd (number d) (x .slot) back (y .slot) (z .slot) k m lx (λ g. w _ g (has-top (node d u y r c) x k (node d e z r v) d _ refl))))))
+      only-trans (only-back s (topSlot c) (y .slot) (λ l. w _ BACK (near _ (has-far u y r c d _ (top-has cap c few l))) (omega arith) (omega arith)))
+      (only-trans (only-back sa (topSlot e) (z .slot) (λ l. w _ BACK (far _ (has-near e z r v d _ (top-has cap e few l))) (omega arith) (omega arith)))
+      (only-trans (only-node sb (number d) (y .slot) (x .slot) (topSlot u) (topSlot c) r m ly (λ g. w _ g (near _ (has-top u y r c d _ refl))))
+      (only-trans (only-node sc (number d) (z .slot) (x .slot) (topSlot e) (topSlot v) r m lz (λ g. w _ g (far _ (has-top e z r v d _ refl))))
+      (only-node sd (number d) (x .slot) back (y .slot) (z .slot) k m lx (λ g. w _ g (has-top (node d u y r c) x k (node d e z r v) d _ refl))))))
 
   module _ (ly : y .slot < cap) (lx : x .slot < cap) (lz : z .slot < cap) (D : Distinct spreadTree)
       (U : Links s cap (y .slot) u) (bc : ℕ) (C : Links s cap bc c) (be : ℕ) (E : Links s cap be e) (O : Links s cap (z .slot) v) where
@@ -77,16 +78,16 @@ module _ (s : List ℕ) (cap back : ℕ) (d : Side) (u c e v : Tree) (y x z : En
     G = apart e z r v d (A .in-far)
 
     room-a : Long sa cap
-    room-a = rw (length-back s cap (topSlot c) (y .slot)) room
+    room-a = only-room (touch-back s cap (topSlot c) (y .slot)) room
 
     room-b : Long sb cap
-    room-b = rw (length-back sa cap (topSlot e) (z .slot)) room-a
+    room-b = only-room (touch-back sa cap (topSlot e) (z .slot)) room-a
 
     room-c : Long sc cap
-    room-c = rw (length-node sb cap (number d) (y .slot) (x .slot) (topSlot u) (topSlot c) r m ly) room-b
+    room-c = only-room (touch-node sb cap (number d) (y .slot) (x .slot) (topSlot u) (topSlot c) r m ly) room-b
 
     room-d : Long sd cap
-    room-d = rw (length-node sc cap (number d) (z .slot) (x .slot) (topSlot e) (topSlot v) r m lz) room-c
+    room-d = only-room (touch-node sc cap (number d) (z .slot) (x .slot) (topSlot e) (topSlot v) r m lz) room-c
 
     touch-d : Touch sc sd cap (z .slot)
     touch-d = touch-node sc cap (number d) (z .slot) (x .slot) (topSlot e) (topSlot v) r m lz

@@ -7,19 +7,19 @@ use native.Mathlib.Omega.{arith}
 use lib.Dec.{lit<}
 use Rattle.handle.specs.Numbers.{noSlot}
 use Rattle.arena.specs.Words.{Long, put, LEFT, RIGHT, BACK}
+use Rattle.arena.specs.inner.Only.{Only}
+use Rattle.arena.proofs.Laws.{room-put}
+use Rattle.arena.proofs.Only.{only-trans, only-room, only-put}
 use Rattle.tree.specs.inner.Links.{withBack, withNode}
-use Rattle.chain.proofs.Keeps.{room-put}
+use Rattle.tree.proofs.Keeps.{only-back, only-node}
 use Rattle.wavl.specs.Entry.{Entry}
 use Rattle.wavl.specs.Tree.{Side, Tree, node}
 use Rattle.holds.specs.Ends.{topSlot, number}
 use Rattle.holds.specs.Links.{Node, Links}
-use Rattle.holds.specs.inner.Writes.{Only}
 use Rattle.holds.proofs.Has.{Has, Distinct, Apart, apart, has-top, has-near, has-far, not-top}
 use Rattle.holds.proofs.Trees.{number-small, closed, Touch, carry, carry-node}
 use Rattle.holds.proofs.Ways.{top-node}
-use Rattle.holds.proofs.Writes.{only-trans, only-put, only-back, only-node}
-use Rattle.holds.proofs.WayWrites.{touch-put}
-use Rattle.holds.proofs.NodeWrites.{node-put-back, node-put-far, node-new, touch-node, touch-back, length-node, length-back, new-back}
+use Rattle.holds.proofs.NodeWrites.{node-put-back, node-put-far, node-new, touch-node, touch-back, new-back}
 use Rattle.holds.proofs.Turned.{top-off, top-has}
 
 -- "rotate s0 up to n1's old rank, and n1 to a's rank plus 1": y below x, with u and c; v on x's other side
@@ -41,9 +41,9 @@ module _ (s : List ℕ) (cap back : ℕ) (d : Side) (u c v : Tree) (y x : Entry)
   rolled-only W H w ly lx =
       let m = number-small d in
       let near = has-near (node d u y r c) x k v d in
-      only-trans cap W H s ra rolled (only-back cap W H s (topSlot c) (y .slot) (λ l. w _ BACK (near _ (has-far u y r c d _ (top-has cap c few l))) (omega arith) (omega arith)))
-      (only-trans cap W H ra rb rolled (only-node cap W H ra (number d) (y .slot) (x .slot) (topSlot u) (topSlot c) r m ly (λ g. w _ g (near _ (has-top u y r c d _ refl))))
-      (only-node cap W H rb (number d) (x .slot) back (y .slot) (topSlot v) k m lx (λ g. w _ g (has-top (node d u y r c) x k v d _ refl))))
+      only-trans (only-back s (topSlot c) (y .slot) (λ l. w _ BACK (near _ (has-far u y r c d _ (top-has cap c few l))) (omega arith) (omega arith)))
+      (only-trans (only-node ra (number d) (y .slot) (x .slot) (topSlot u) (topSlot c) r m ly (λ g. w _ g (near _ (has-top u y r c d _ refl))))
+      (only-node rb (number d) (x .slot) back (y .slot) (topSlot v) k m lx (λ g. w _ g (has-top (node d u y r c) x k v d _ refl))))
 
   module _ (ly : y .slot < cap) (lx : x .slot < cap) (D : Distinct rolledTree)
       (U : Links s cap (y .slot) u) (bc : ℕ) (C : Links s cap bc c) (O : Links s cap (x .slot) v) where
@@ -57,10 +57,10 @@ module _ (s : List ℕ) (cap back : ℕ) (d : Side) (u c v : Tree) (y x : Entry)
     B = apart u y r c d (A .in-near)
 
     room-a : Long ra cap
-    room-a = rw (length-back s cap (topSlot c) (y .slot)) room
+    room-a = only-room (touch-back s cap (topSlot c) (y .slot)) room
 
     room-b : Long rb cap
-    room-b = rw (length-node ra cap (number d) (y .slot) (x .slot) (topSlot u) (topSlot c) r m ly) room-a
+    room-b = only-room (touch-node ra cap (number d) (y .slot) (x .slot) (topSlot u) (topSlot c) r m ly) room-a
 
     touch-b : Touch ra rb cap (y .slot)
     touch-b = touch-node ra cap (number d) (y .slot) (x .slot) (topSlot u) (topSlot c) r m ly
@@ -111,10 +111,10 @@ module _ (s : List ℕ) (cap back : ℕ) (d : Side) (u c v : Tree) (x y : Entry)
       let m = number-small d in
       let far = has-far u x k (node d c y r v) d in
       let top = has-top u x k (node d c y r v) d _ refl in
-      only-trans cap W H s la lifted (only-back cap W H s (topSlot c) (y .slot) (λ l. w _ BACK (far _ (has-near c y r v d _ (top-has cap c few l))) (omega arith) (omega arith)))
-      (only-trans cap W H la lb lifted (only-put cap W H la (x .slot) (RIGHT - number d) (y .slot) lx (omega arith) (w _ _ top (omega arith) (omega arith)))
-      (only-trans cap W H lb lc lifted (only-put cap W H lb (x .slot) BACK back lx (omega arith) (w _ _ top (omega arith) (omega arith)))
-      (only-node cap W H lc (number d) (y .slot) (x .slot) (topSlot c) (topSlot v) r m ly (λ g. w _ g (far _ (has-top c y r v d _ refl))))))
+      only-trans (only-back s (topSlot c) (y .slot) (λ l. w _ BACK (far _ (has-near c y r v d _ (top-has cap c few l))) (omega arith) (omega arith)))
+      (only-trans (only-put la (x .slot) (RIGHT - number d) (y .slot) lx (omega arith) (w _ _ top (omega arith) (omega arith)))
+      (only-trans (only-put lb (x .slot) BACK back lx (omega arith) (w _ _ top (omega arith) (omega arith)))
+      (only-node lc (number d) (y .slot) (x .slot) (topSlot c) (topSlot v) r m ly (λ g. w _ g (far _ (has-top c y r v d _ refl))))))
 
   module _ (ly : y .slot < cap) (D : Distinct liftedTree) (b₀ f₀ : ℕ) (N : Node s cap (number d) b₀ (topSlot u) (x .slot) k f₀)
       (U : Links s cap (x .slot) u) (bc : ℕ) (C : Links s cap bc c) (O : Links s cap (y .slot) v) where
@@ -131,7 +131,7 @@ module _ (s : List ℕ) (cap back : ℕ) (d : Side) (u c v : Tree) (x y : Entry)
     BB = apart c y r v d (AA .in-far)
 
     room-la : Long la cap
-    room-la = rw (length-back s cap (topSlot c) (y .slot)) room
+    room-la = only-room (touch-back s cap (topSlot c) (y .slot)) room
 
     room-lb : Long lb cap
     room-lb = room-put la cap (x .slot) (RIGHT - number d) (y .slot) room-la
@@ -143,10 +143,10 @@ module _ (s : List ℕ) (cap back : ℕ) (d : Side) (u c v : Tree) (x y : Entry)
     touch-la = touch-back s cap (topSlot c) (y .slot)
 
     touch-lb : Touch la lb cap (x .slot)
-    touch-lb = let h = n≤ in touch-put la cap (x .slot) (RIGHT - number d) (y .slot) lx (omega arith)
+    touch-lb = let h = n≤ in only-put la (x .slot) (RIGHT - number d) (y .slot) lx (omega arith) refl
 
     touch-lc : Touch lb lc cap (x .slot)
-    touch-lc = touch-put lb cap (x .slot) BACK back lx (lit< tt)
+    touch-lc = only-put lb (x .slot) BACK back lx (lit< tt) refl
 
     touch-ld : Touch lc lifted cap (y .slot)
     touch-ld = touch-node lc cap (number d) (y .slot) (x .slot) (topSlot c) (topSlot v) r n≤ ly

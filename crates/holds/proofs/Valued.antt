@@ -7,7 +7,9 @@ use mathlib.Core.List.{List, [], _∷_, _++_}
 use native.Mathlib.Omega.{arith}
 use lib.Dec.{lit<}
 use Rattle.arena.specs.Words.{put, KEY, GENERATION, VALUE}
+use Rattle.arena.specs.inner.Only.{Only, NoHead}
 use Rattle.arena.proofs.Laws.{field-same}
+use Rattle.arena.proofs.Only.{only-put}
 use Rattle.wavl.specs.Lists.{All, In, Differ, Once}
 use Rattle.wavl.specs.Entry.{Entry, revalued, slots}
 use Rattle.wavl.specs.Tree.{Tree, fork, inorder}
@@ -22,10 +24,8 @@ use Rattle.holds.specs.Ends.{firstSlot, lastSlot}
 use Rattle.holds.specs.Chain.{Chain, ChainWords}
 use Rattle.holds.specs.Entries.{EntryWords, AllEntries}
 use Rattle.holds.specs.Holds.{Words}
-use Rattle.holds.specs.inner.Writes.{Only}
 use Rattle.holds.proofs.Parts.{Separate, used-few, live-low, free-low, free-not-live, room-of}
 use Rattle.holds.proofs.Ways.{unplugged, plugged}
-use Rattle.holds.proofs.Writes.{only-put}
 use Rattle.holds.proofs.Groups.{tree-stays, chain-stays, entries-stay, stack-stays, all-retired-stay, unused-stays}
 use Rattle.holds.proofs.Reshaped.{header-stays, withTree}
 
@@ -54,9 +54,6 @@ module _ (s : List ℕ) (cap v : ℕ) (x : Entry) (m : List Entry) where
 -- the place that is written
 abbrev ValueOf : ℕ → ℕ → ℕ → Type 0
 ValueOf i j g = (j ≡ i) × (g ≡ VALUE)
-
-abbrev None : ℕ → Type 0
-None h = ⊥
 
 module _ {s : List ℕ} {q : Queue} (d : Separate q) (w : Words s q) (a : Tree) (x : Entry) (r : ℕ) (b : Tree) (p : Way) (e : plug (fork a x r b) p ≡ q .tree) (v : ℕ) where
   abbrev cap : ℕ
@@ -89,8 +86,8 @@ module _ {s : List ℕ} {q : Queue} (d : Separate q) (w : Words s q) (a : Tree) 
   low : i < cap
   low = all-in (Under cap) (slots (entries q)) (live-low d) i live-here
 
-  o : Only s t cap (ValueOf i) None
-  o = only-put cap (ValueOf i) None s i VALUE v low (lit< tt) (refl, refl)
+  o : Only s t cap (ValueOf i) NoHead
+  o = only-put s i VALUE v low (lit< tt) (refl, refl)
 
   once : Once (slots l ++ (i ∷ slots m))
   once = rw (whole, slots-put l x m) at (pairwise-left Differ (slots (entries q)) (freeSlots (q .free)) (d .apart))
@@ -99,7 +96,7 @@ module _ {s : List ℕ} {q : Queue} (d : Separate q) (w : Words s q) (a : Tree) 
   lows = rw (whole, slots-put l x m) at (live-low d)
 
   part : (k : List Entry) → All (Under cap) (slots k) → ((j : ℕ) → In j (slots k) → ¬ (j ≡ i)) → AllEntries s cap k → AllEntries t cap k
-  part k u n = entries-stay s t cap (ValueOf i) None o k u (λ j h. (λ z. let y = z .1 in omega arith, λ z. n j h (z .0), λ z. let y = z .1 in omega arith))
+  part k u n = entries-stay s t cap (ValueOf i) NoHead o k u (λ j h. (λ z. let y = z .1 in omega arith, λ z. n j h (z .0), λ z. let y = z .1 in omega arith))
 
   entries-new : AllEntries t cap (l ++ (revalued v x ∷ m))
   entries-new =
@@ -118,18 +115,18 @@ module _ {s : List ℕ} {q : Queue} (d : Separate q) (w : Words s q) (a : Tree) 
 
   pub new-value : Words t (withTree (plug (fork a (revalued v x) r b) p) q)
   new-value =
-      let T = tree-stays s t cap (ValueOf i) None o (q .tree) (λ z. z) (λ j g h k z. let y = z .1 in omega arith) (w .tree) in
+      let T = tree-stays s t cap (ValueOf i) NoHead o (q .tree) (λ z. z) (λ j g h k z. let y = z .1 in omega arith) (w .tree) in
       let P = unplugged t cap p (fork a x r b) (rw e T) in
-      let h = header-stays s t q (ValueOf i) None o (λ n y z. z) (w .header) in
+      let h = header-stays s t q (ValueOf i) NoHead o (λ n y z. z) (w .header) in
       record {
         header = record { passes = h .passes; top-is = h .top-is };
         tree = plugged t cap p (fork a (revalued v x) r b) (record { below = P .below; hook = P .hook; way = P .way });
         chain = rw whole-new (words-alike t cap v x m l (rw whole at
-            (chain-stays s t cap (ValueOf i) None o (entries q) (live-low d) (λ z. z) (λ z. z) (λ j n. (λ z. let y = z .1 in omega arith, λ z. let y = z .1 in omega arith)) (w .chain))));
+            (chain-stays s t cap (ValueOf i) NoHead o (entries q) (live-low d) (λ z. z) (λ z. z) (λ j n. (λ z. let y = z .1 in omega arith, λ z. let y = z .1 in omega arith)) (w .chain))));
         live = rw whole-new entries-new;
-        free = stack-stays s t cap (ValueOf i) None o (q .free) (let n = used-few d in omega arith) (free-low d) (λ z. z) (λ n z. let y = z .1 in omega arith)
+        free = stack-stays s t cap (ValueOf i) NoHead o (q .free) (let n = used-few d in omega arith) (free-low d) (λ z. z) (λ n z. let y = z .1 in omega arith)
             (λ j n g y z. free-not-live d j n (rw (z .0) live-here)) (w .free);
-        retired = rw same-slots (all-retired-stay s t cap (ValueOf i) None o (q .top) (usedSlots q)
+        retired = rw same-slots (all-retired-stay s t cap (ValueOf i) NoHead o (q .top) (usedSlots q)
             (λ j n g y z. n (in-left j (slots (entries q)) (freeSlots (q .free)) (rw (z .0) live-here))) (w .retired));
-        unused = unused-stays s t cap (ValueOf i) None o (λ n y z. z) (w .unused);
+        unused = unused-stays s t cap (ValueOf i) NoHead o (λ n y z. z) (w .unused);
       }

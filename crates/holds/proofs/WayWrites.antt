@@ -9,6 +9,7 @@ use borrow.Author.Tests.{lt-ltb, le-ltb, eq-eqb, ne-eqb}
 use Rattle.handle.specs.Numbers.{noSlot}
 use Rattle.arena.specs.Words.{Long, fields, put, head, putHead, LEFT, RIGHT, RANK, BACK, ROOT}
 use Rattle.arena.proofs.Laws.{field-same, field-off, field-slot, head-put, head-same, field-putHead}
+use Rattle.arena.proofs.Only.{only-put}
 use Rattle.tree.specs.inner.Links.{sideOf, withChild, relinked}
 use Rattle.wavl.specs.Tree.{left, right, Tree, node}
 use Rattle.wavl.specs.Way.{step, Way, plug}
@@ -16,7 +17,7 @@ use Rattle.holds.specs.Ends.{topSlot, number}
 use Rattle.holds.specs.Links.{Links, TreeWords}
 use Rattle.holds.specs.inner.Ways.{parent, sideIn, Hook, LinksWay}
 use Rattle.holds.proofs.Has.{Has, Distinct, apart, not-top}
-use Rattle.holds.proofs.Trees.{number-small, SameLinks, links-keep}
+use Rattle.holds.proofs.Trees.{number-small, SameLinks, links-keep, carry}
 use Rattle.holds.proofs.Ways.{Parted, unplugged, plugged, distinct-in, HasWay, above-apart}
 
 module _ (s t : List ℕ) (cap : ℕ) where
@@ -53,9 +54,6 @@ module _ (s : List ℕ) (cap : ℕ) where
   unfolding withChild
   child-root p d c l = rw (le-ltb p cap l)
 
-  pub touch-put : (i f v : ℕ) → i < cap → f < fields → (j : ℕ) → j < cap → ¬ (j ≡ i) → SameLinks s (put s cap i f v) cap j
-  touch-put i f v hi hf j l n g k = field-slot s cap i f v hi hf j g l (omega arith) n
-
   -- the hook comes to hold c; the way stays, and each tree without the parent
   module _ (few : cap ≤ noSlot) (c : ℕ) where
     pub hook-new : (p : Way) → Long s cap → LinksWay s cap p → Hook (withChild s cap (parent p) (sideIn p) c) cap p c
@@ -73,7 +71,7 @@ module _ (s : List ℕ) (cap : ℕ) where
         let f = LEFT + number d in
         let hf : f < fields = omega arith in
         let t = put s cap (e .slot) f c in
-        let off : (j : ℕ) → j < cap → ¬ (j ≡ e .slot) → SameLinks s t cap j = touch-put (e .slot) f c low hf in
+        let off : (j : ℕ) → j < cap → ¬ (j ≡ e .slot) → SameLinks s t cap j = λ j l n g k. field-slot s cap (e .slot) f c low hf j g l (omega arith) n in
         let up : (j : ℕ) → j < cap → HasWay j p → SameLinks s t cap j = λ j l h. off j l (λ z. above-apart d e r u p x D j h (inl z)) in
         let side : (j : ℕ) → j < cap → Has j u → SameLinks s t cap j =
         λ j l h. off j l (λ z. apart x e r u d (distinct-in p (node d x e r u) D) .far (rw z at h)) in
@@ -99,7 +97,7 @@ module _ (s : List ℕ) (cap : ℕ) where
         let m = number-small d in
         let low : e .slot < cap = w .0 .low in
         rw (child-at (e .slot) (number d) c low)
-        (links-keep s (put s cap (e .slot) (LEFT + number d) c) cap y back (λ j lj h. touch-put (e .slot) (LEFT + number d) c low (omega arith) j lj (λ z. n (rw z at h))) l)
+        (carry s _ cap (e .slot) (only-put s (e .slot) (LEFT + number d) c low (omega arith) refl) y back n l)
 
 -- the child `old` of the place's parent is on the place's side alone
 abbrev pub OneSided : Way → ℕ → Type 0

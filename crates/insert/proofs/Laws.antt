@@ -18,13 +18,15 @@ use Rattle.arena.specs.inner.Slots.{TakenIn, takeSlot}
 use Rattle.arena.specs.Words.{field, head, KEY, LEFT, PREV, VALUE, ROOT}
 use Rattle.arena.specs.declared.slots.Taken.{Taken}
 use Rattle.arena.specs.declared.slots.Taken as T
+use Rattle.arena.proofs.Paths.{either}
+use Rattle.arena.proofs.Only.{only-none, only-trans, only-put, only-putHead, only-weaken}
 use Rattle.chain.specs.inner.Links.{linkBeside}
 use Rattle.chain.proofs.Laws.{alone-only, between-only}
 use Rattle.find.specs.inner.Seeking.{FoundIn, seekModel}
 use Rattle.find.specs.declared.Found.{Found}
 use Rattle.find.specs.declared.Found as F
 use Rattle.find.proofs.Laws.{found-in}
-use Rattle.tree.proofs.Keeps.{either, node-only, child-only}
+use Rattle.tree.proofs.Keeps.{only-node, only-child}
 use Rattle.rebalance.proofs.Laws.{rebalanced-only}
 use Rattle.insert.specs.inner.Kept.{Within}
 use Rattle.insert.specs.inner.Kinds.{PreparedIn, asFound, preparedNormal, preparedEmpty, liesOn, preparedEqual, placeBeside, besideNext, preparedBeside, bySide, preparedManual}
@@ -32,7 +34,7 @@ use Rattle.insert.specs.inner.Place.{standAlone, aloneAs, placedAlone, h
 use Rattle.insert.specs.declared.kinds.Prepared.{Prepared}
 use Rattle.insert.specs.declared.kinds.Prepared.the-variants.{Alone, Beside, Replace, Fail, NotSound}
 use Rattle.insert.proofs.Choices.{live-low}
-use Rattle.insert.proofs.Keeps.{within-refl, within-trans, tree-within, chain-within, put-within, head-within, entry-within, take-well}
+use Rattle.insert.proofs.Keeps.{entry-within, take-well}
 
 -- what was prepared can be used: Normal, Empty, Manual
 found-as : (cap : ℕ) (r : Found) → FoundIn cap r → PreparedIn cap (asFound r)
@@ -90,21 +92,22 @@ module _ (cap : ℕ) (key : ℤ) (value : ℕ) where
   alone-within : (s : List ℕ) (i : ℕ) → i < cap → Within s (standAlone s cap i key value) cap
   unfolding standAlone
   alone-within s i hi =
-      within-trans _ _ _ _ (entry-within s cap i key value hi)
-      (within-trans _ _ _ _ (tree-within _ _ _ (node-only _ _ _ _ _ _ _ _ hi (omega arith)))
-      (within-trans _ _ _ _ (chain-within _ _ _ (alone-only _ _ _ hi)) (head-within _ _ ROOT i (omega arith) (omega arith))))
+      only-trans (entry-within s cap i key value hi)
+      (only-trans (only-node _ _ _ _ _ _ _ (omega arith) hi (λ g lo up e. omega arith))
+      (only-trans (alone-only _ _ _ hi (λ e. omega arith) (λ e. omega arith) (omega arith) (omega arith)) (only-putHead _ ROOT i (omega arith) (omega arith))))
 
   module _ (p d : ℕ) (hp : p < cap) (hd : d ≤ 1) where
     hung-within : (s : List ℕ) (i : ℕ) → i < cap → Within s (hung s cap i p d key value) cap
     unfolding hung linkBeside
     hung-within s i hi =
-        within-trans _ _ _ _ (entry-within s cap i key value hi)
-        (within-trans _ _ _ _ (tree-within _ _ _ (node-only _ _ _ _ _ _ _ _ hi (omega arith)))
-        (within-trans _ _ _ _ (chain-within _ _ _ (between-only _ _ _ _ _ _ hi hp hd)) (tree-within _ _ _ (child-only _ _ _ _ _ hd))))
+        only-trans (entry-within s cap i key value hi)
+        (only-trans (only-node _ _ _ _ _ _ _ (omega arith) hi (λ g lo up e. omega arith))
+        (only-trans (between-only _ _ _ _ _ _ hi hp hd (λ g lo up e. omega arith) (λ e. omega arith) (λ l e. omega arith) (λ l. omega arith))
+        (only-child _ _ _ _ hd (λ l e. omega arith) (λ l. omega arith))))
 
     below-within : (s : List ℕ) (i : ℕ) → i < cap → Within s (hungBelow s cap i p d key value .0) cap
     unfolding hungBelow
-    below-within s i hi = within-trans _ _ _ _ (hung-within s i hi) (tree-within _ _ _ (rebalanced-only _ cap i p hi hp))
+    below-within s i hi = only-trans (hung-within s i hi) (only-weaken (λ j g hj x e. omega arith) (λ h x. omega arith) (rebalanced-only _ cap i p hi hp))
 
     as-within : (s t : List ℕ) (h : Handle) (b : Bool) → Within s t cap → Within s (hungAs h t b .0) cap
     as-within s t h true w = w
@@ -113,7 +116,7 @@ module _ (cap : ℕ) (key : ℤ) (value : ℕ) where
     beside-as-within : (s t : List ℕ) (r : Taken) → Within s t cap → TakenIn cap r → Within s (besideAs cap p d key value t r .0) cap
     beside-as-within s t (T.the-variants.At h) w i =
         let x = hungBelow t cap (h .slot .0) p d key value in
-        as-within s (x .0) h (x .1) (within-trans s t _ cap w (below-within t (h .slot .0) i))
+        as-within s (x .0) h (x .1) (only-trans w (below-within t (h .slot .0) i))
     beside-as-within s t T.the-variants.Full w i = w
     beside-as-within s t T.the-variants.NotSound w i = w
 
@@ -122,7 +125,7 @@ module _ (cap : ℕ) (key : ℤ) (value : ℕ) where
     placed-beside-within s = let w = take-well s cap in beside-as-within s (takeSlot s cap .0) (takeSlot s cap .1) (w .0) (w .1)
 
   alone-as-within : (s t : List ℕ) (r : Taken) → Within s t cap → TakenIn cap r → Within s (aloneAs cap key value t r .0) cap
-  alone-as-within s t (T.the-variants.At h) w i = within-trans s t _ cap w (alone-within t (h .slot .0) i)
+  alone-as-within s t (T.the-variants.At h) w i = only-trans w (alone-within t (h .slot .0) i)
   alone-as-within s t T.the-variants.Full w i = w
   alone-as-within s t T.the-variants.NotSound w i = w
 
@@ -134,9 +137,9 @@ module _ (cap : ℕ) (key : ℤ) (value : ℕ) where
   unfolding replaced
   applied-within s Alone i = placed-alone-within s
   applied-within s (Beside p d) i = placed-beside-within p d (i .0) (i .1) s
-  applied-within s (Replace p) i = put-within s cap p VALUE value i (omega arith) (λ e. omega arith)
-  applied-within s Fail i = within-refl s cap
-  applied-within s NotSound i = within-refl s cap
+  applied-within s (Replace p) i = only-put s p VALUE value i (omega arith) (λ e. omega arith)
+  applied-within s Fail i = only-none
+  applied-within s NotSound i = only-none
 
 module _ (s : List ℕ) (cap : ℕ) (key : ℤ) (value : ℕ) where
   pub insert-normal-within : Within s (insertNormal s cap key value .0) cap

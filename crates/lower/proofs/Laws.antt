@@ -7,12 +7,14 @@ use lib.Dec.{ltb, leb, eqb}
 use borrow.Author.Tests.{ltb-true, leb-false}
 use Rattle.arena.specs.Words.{field, put, RANK, BACK}
 use Rattle.arena.specs.inner.Budget.{budget}
+use Rattle.arena.proofs.Paths.{either}
+use Rattle.arena.proofs.Only.{only-none, only-trans, only-put}
 use Rattle.tree.specs.inner.Links.{sideOf}
 use Rattle.tree.specs.inner.Climb.{Standing}
 use Rattle.tree.specs.inner.Kept.{TreeOnly}
 use Rattle.tree.specs.declared.Climbed.the-variants.{Done, Up}
 use Rattle.tree.proofs.Climb.{Turned, turned-done, turned-bad, on-only}
-use Rattle.tree.proofs.Keeps.{either, only-refl, only-trans, only-put, side-small, back-only, relinked-only, node-only, spread-only}
+use Rattle.tree.proofs.Keeps.{side-small, back-only, relinked-only, node-only, spread-only}
 use Rattle.lower.specs.inner.Turns.{turnOnce, turnTwiceWith, turnTwice}
 use Rattle.lower.specs.inner.Climb.{goUpTo, goUp, onward, lowerOne, lowerBoth, climbPastWith, climbPast, climbAtWith, climbAt, climbTurnWith, climbTurn, climbFrom}
 
@@ -21,15 +23,15 @@ module _ (s : List ℕ) (cap d p0 p1 p2 s0 a b ra rank1 : ℕ) (h1 : p1 < cap) (
   pub once-only : TreeOnly s (turnOnce s cap d p0 p1 p2 s0 a b ra rank1) cap
   unfolding turnOnce
   once-only =
-      only-trans _ _ _ _ (back-only _ _ _ _)
-      (only-trans _ _ _ _ (node-only _ _ _ _ _ _ _ _ h1 hd)
-      (only-trans _ _ _ _ (node-only _ _ _ _ _ _ _ _ hs hd) (relinked-only _ _ _ _ _)))
+      only-trans (back-only _ _ _ _)
+      (only-trans (node-only _ _ _ _ _ _ _ _ h1 hd)
+      (only-trans (node-only _ _ _ _ _ _ _ _ hs hd) (relinked-only _ _ _ _ _)))
 
   pub twice-only : a < cap → TreeOnly s (turnTwice s cap d p0 p1 p2 s0 a b ra rank1) cap
   unfolding turnTwice turnTwiceWith
   twice-only ha =
-      only-trans _ _ _ _ (spread-only _ _ _ _ _ _ _ _ _ _ _ h1 hs hd)
-      (only-trans _ _ _ _ (node-only _ _ _ _ _ _ _ _ ha hd) (relinked-only _ _ _ _ _))
+      only-trans (spread-only _ _ _ _ _ _ _ _ _ _ _ h1 hs hd)
+      (only-trans (node-only _ _ _ _ _ _ _ _ ha hd) (relinked-only _ _ _ _ _))
 
 pub up-stands : (s : List ℕ) (cap p1 : ℕ) → Standing cap (goUp s cap p1)
 unfolding goUp goUpTo
@@ -39,14 +41,14 @@ up-stands s cap p1 =
 
 pub lower-only : (s : List ℕ) (cap p1 rank : ℕ) → p1 < cap → Turned s cap (lowerOne s cap p1 rank)
 unfolding lowerOne onward
-lower-only s cap p1 rank h1 = (only-put s cap p1 RANK rank h1 (omega arith) (omega arith), up-stands _ _ _)
+lower-only s cap p1 rank h1 = (only-put s p1 RANK rank h1 (omega arith) (omega arith), up-stands _ _ _)
 
 pub both-only : (s : List ℕ) (cap p1 s0 rank0 : ℕ) → p1 < cap → s0 < cap → Turned s cap (lowerBoth s cap p1 s0 rank0)
 unfolding lowerBoth
 both-only s cap p1 s0 rank0 h1 hs =
     let t = put s cap s0 RANK (rank0 + 1) in
     let l = lower-only t cap p1 (rank0 + 2) h1 in
-    (only-trans s t _ cap (only-put s cap s0 RANK (rank0 + 1) hs (omega arith) (omega arith)) (l .0), l .1)
+    (only-trans (only-put s s0 RANK (rank0 + 1) hs (omega arith) (omega arith)) (l .0), l .1)
 
 module _ (s : List ℕ) (cap d p0 p1 : ℕ) (h1 : p1 < cap) (hd : d ≤ 1) where
   past-with : (s0 rank0 rank1 rs a b ra rb p2 : ℕ) → s0 < cap → Turned s cap (climbPastWith s cap d p0 p1 s0 rank0 rank1 rs a b ra rb p2)
@@ -70,7 +72,7 @@ module _ (s : List ℕ) (cap d p0 p1 : ℕ) (h1 : p1 < cap) (hd : d ≤ 1) where
   unfolding climbTurnWith climbAt
   turn-with s0 rank1 rank0 =
       either (Turned s cap) (leb budget rank0) _ _ (λ e. turned-bad s cap)
-      (λ e. either (Turned s cap) (leb rank1 (rank0 + 2)) _ _ (λ f. turned-done s s cap (only-refl s cap))
+      (λ e. either (Turned s cap) (leb rank1 (rank0 + 2)) _ _ (λ f. turned-done s s cap only-none)
       (λ f. either (Turned s cap) (leb cap s0) _ _ (λ g. turned-bad s cap)
       (λ g. at-with s0 rank0 rank1 _ (leb-false cap s0 g))))
 
@@ -80,7 +82,7 @@ turn-only s cap p1 d h1 hd = turn-with s cap d _ p1 h1 hd _ _ _
 
 pub climb-only : (fuel : ℕ) (s : List ℕ) (cap p1 d : ℕ) → p1 < cap → d ≤ 1 → TreeOnly s (climbFrom fuel s cap p1 d .0) cap
 unfolding climbFrom
-climb-only zero s cap p1 d h1 hd = only-refl s cap
+climb-only zero s cap p1 d h1 hd = only-none
 climb-only (suc fuel) s cap p1 d h1 hd =
     let x = climbTurn s cap p1 d in
     let f = turn-only s cap p1 d h1 hd in

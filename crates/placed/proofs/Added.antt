@@ -12,7 +12,6 @@ use Rattle.arena.specs.inner.Slots.{handleOf, takeSlot}
 use Rattle.arena.specs.declared.slots.Taken as T
 use Rattle.tree.specs.inner.Links.{withChild}
 use Rattle.chain.specs.inner.Links.{linkAlone, linkBeside}
-use Rattle.chain.proofs.Laws.{alone-only}
 use Rattle.insert.specs.inner.Place.{standAlone, placedAlone, hung, hungBelow, placedBeside}
 use Rattle.insert.specs.declared.place.Inserted as I
 use Rattle.wavl.specs.Lists.{In}
@@ -40,7 +39,7 @@ use Rattle.placed.proofs.Restructured.{Stands}
 use Rattle.placed.proofs.Rebalanced.{rebalances}
 use Rattle.placed.proofs.Hung as Hung
 use Rattle.placed.proofs.Hung.{hungQueue}
-use Rattle.placed.proofs.Beside.{beside-links, beside-only}
+use Rattle.placed.proofs.Beside.{beside-links}
 
 -- the model of a new entry at the place: the whole queue, or beside the place's parent
 abbrev pub placedAt : List ℕ → ℕ → Way → ℤ → ℕ → List ℕ × I.Inserted
@@ -100,7 +99,7 @@ module _ {s : List ℕ} {q : Queue} (dq : Sound q) (w : Words s q) (key : ℤ) (
         let t₀ = leafStore [] e d in
         let room = Hung.leaf-room (separate-of dq) w h rest free (stored key) value [] e (sep [] e d) in
         let t = linkAlone t₀ cap (h .slot) in
-        let y = Hung.hung (separate-of dq) w h rest free (stored key) value [] e (sep [] e d) t (alone-links t₀ cap (h .slot) (few [] e d) room (low [] e d)) (alone-only t₀ cap (h .slot) (low [] e d)) in
+        let y = Hung.hung (separate-of dq) w h rest free (stored key) value [] e (sep [] e d) t (alone-links t₀ cap (h .slot) (few [] e d) room (low [] e d)) in
         rw (taken [] e d) (record { answer = refl; words = rw (le-ltb noSlot cap (few [] e d)) at y })
 
     -- below the parent e1 of an empty place, and beside it in the chain
@@ -117,9 +116,8 @@ module _ {s : List ℕ} {q : Queue} (dq : Sound q) (w : Words s q) (key : ℤ) (
         let n = not-around way e d in
         let t = linkBeside t₀ cap i (e1 .slot) (number c) in
         let K = beside-links t₀ cap i (few way e d) room (low way e d) c e1 r1 s0 p hp (n .0) (n .1) chain in
-        let C = beside-only t₀ cap i (few way e d) room (low way e d) c (e1 .slot) hp in
-        let y = Hung.hung (separate-of dq) w h rest free (stored key) value way e (sep way e d) t K C in
-        let u = Hung.hungStore (separate-of dq) w h rest free (stored key) value way e (sep way e d) t K C in
+        let y = Hung.hung (separate-of dq) w h rest free (stored key) value way e (sep way e d) t K in
+        let u = Hung.hungStore (separate-of dq) w h rest free (stored key) value way e (sep way e d) t K in
         let q₁ = hungQueue q x way rest in
         let stands : Stands u cap (slots (entries q₁)) (plug (leaf x) way) =
         record { words = y .tree; apart = pairwise-left Differ (slots (entries q₁)) (freeSlots rest) (sep way e d .apart); within = λ j z. z } in

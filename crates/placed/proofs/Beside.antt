@@ -1,21 +1,19 @@
 -- The chain's neighbours of an empty place: its parent on one side, and what the parent's link on the place's side leads to.
 -- A reader may rely on: beside-links: crate `chain`'s linking beside the parent puts the new slot where crate `wavl` has the place.
 use Prim.Native.Nat.{ℕ, _+_, _≤_, _<_}
-use mathlib.Core.Path.{_≡_, refl, sym, ap, _∙_}
+use mathlib.Core.Path.{_≡_, sym, ap, _∙_}
 use mathlib.Core.Logic.{inl}
 use mathlib.Core.List.{List, [], _∷_, _++_, append-assoc}
 use Rattle.handle.specs.Numbers.{noSlot}
 use Rattle.arena.specs.Words.{Long, field, PREV}
 use Rattle.chain.specs.inner.Links.{linkBeside}
-use Rattle.chain.specs.inner.Kept.{ChainOnly}
-use Rattle.chain.proofs.Laws.{beside-is, between-only}
+use Rattle.chain.proofs.Laws.{beside-is}
 use Rattle.wavl.specs.Lists.{In}
 use Rattle.wavl.specs.Entry.{Entry, slots}
 use Rattle.wavl.specs.Tree.{Side, left, right, Tree, inorder}
 use Rattle.wavl.specs.Way.{step, Way, before, after}
 use Rattle.holds.specs.Ends.{firstSlot, lastSlot, number}
 use Rattle.holds.specs.Chain.{Chain, ChainWords}
-use Rattle.holds.proofs.Trees.{number-small}
 use Rattle.holds.proofs.Chains.{end-last, chain-at}
 use Rattle.holds.proofs.Segments.{last-append}
 use Rattle.holds.proofs.Linked.{Linked, after-links, before-links}
@@ -57,6 +55,3 @@ module _ (s : List ℕ) (cap i : ℕ) (few : cap ≤ noSlot) (room : Long s cap)
       rw (last, beside-is s cap i (e1 .slot) 1 q (link-at s cap right e1 r1 s0 p c))
       (after-links s cap i (e1 .slot) q room hi hp (λ z. nb (last-live cap (before (step right e1 r1 s0 ∷ p)) i few hi (z ∙ sym last)))
       (λ z. na (first-live cap (after (step right e1 r1 s0 ∷ p)) i few hi z)))
-
-  pub beside-only : (d : Side) (p : ℕ) → p < cap → ChainOnly s (linkBeside s cap i p (number d)) cap
-  beside-only d p hp = rw (beside-is s cap i p (number d) _ refl) (between-only s cap i p _ (number d) hi hp (number-small d))

@@ -26,9 +26,7 @@ use Rattle.holds.specs.Ends.{topSlot, number}
 use Rattle.holds.specs.inner.Ways.{parent}
 use Rattle.holds.proofs.Trees.{opened}
 use Rattle.holds.proofs.Ways.{top-node, unplugged, distinct-in}
-use Rattle.holds.proofs.Writes.{only-none}
-use Rattle.holds.proofs.Trees.{LinkOf}
-use Rattle.holds.proofs.Reshaped.{IsRoot}
+use Rattle.arena.proofs.Only.{only-none}
 use Rattle.holds.proofs.AnyDepth.{Regrown, Came, came, came-on}
 use Rattle.placed.proofs.Restructured.{Stands, stands-on, ranked-at, restructured}
 use Rattle.placed.proofs.Turns.{side-at, turn-stops, turn-raises, turn-turns}
@@ -67,7 +65,7 @@ module _ (cap : ℕ) (l : List ℕ) (few : cap ≤ noSlot) (fuel : ℕ) (s : Lis
   stopped : r1 < r2 → Came s cap l goal run
   stopped x =
       let q = climb-ends fuel s cap (topSlot n0) (e1 .slot) (e2 .slot) (number d) (number e) s (turn-stops s cap few d e n0 e1 r1 s0 e2 r2 s1 p (T .words) x) in
-      rw (q, insert-stop n0 d e1 r1 s0 e e2 r2 s1 p x) (came (record { words = T .words; only = only-none cap (LinkOf l) IsRoot s }))
+      rw (q, insert-stop n0 d e1 r1 s0 e e2 r2 s1 p x) (came (record { words = T .words; only = only-none }))
 
   turned : ¬ (r1 < r2) → ¬ (rank s1 + 1 ≡ r2) → r1 < budget → rank s1 < budget → Came s cap l goal run
   turned x y b c =

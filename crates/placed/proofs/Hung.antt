@@ -9,10 +9,13 @@ use lib.Dec.{lit<}
 use lib.ListN.{length}
 use Rattle.handle.specs.Numbers.{noSlot}
 use Rattle.arena.proofs.Laws.{length-put}
-use Rattle.arena.specs.Words.{Long, field, put, KEY, LEFT, BACK, NEXT, GENERATION, VALUE, STACK, ROOT}
+use Rattle.arena.specs.Words.{Long, field, put, KEY, LEFT, NEXT, GENERATION, VALUE, STACK, ROOT}
+use Rattle.arena.specs.inner.Only.{Only, NoHead, IsHeight}
 use Rattle.arena.specs.inner.Slots.{popped}
+use Rattle.arena.proofs.Only.{only-trans, only-popped}
 use Rattle.tree.specs.inner.Links.{withChild}
-use Rattle.chain.specs.inner.Kept.{ChainOnly}
+use Rattle.tree.specs.inner.Kept.{TreeField, IsRoot, TreeOnly}
+use Rattle.tree.proofs.Keeps.{only-child}
 use Rattle.wavl.specs.Lists.{All, In, Differ, Once}
 use Rattle.wavl.specs.Entry.{Entry, slots}
 use Rattle.wavl.specs.Tree.{left, tip, leaf, inorder}
@@ -29,18 +32,15 @@ use Rattle.holds.specs.Chain.{ChainWords}
 use Rattle.holds.specs.Entries.{EntryWords, AllEntries}
 use Rattle.holds.specs.Free.{FreeStack, AllRetired}
 use Rattle.holds.specs.Holds.{HeaderWords, Words, Unused}
-use Rattle.holds.specs.inner.Writes.{Only}
 use Rattle.holds.proofs.Has.{Has, Distinct, has-cases}
 use Rattle.holds.proofs.Trees.{SameLinks, node-keep, number-small}
 use Rattle.holds.proofs.Ways.{HasWay, has-way}
 use Rattle.holds.proofs.Parts.{Separate, used-few, live-low, free-low, free-not-live, few-slots, room-of}
-use Rattle.holds.proofs.Writes.{only-trans, only-child}
 use Rattle.holds.proofs.Groups.{unused-stays, chain-stays, entries-stay, stack-stays, all-retired-stay}
-use Rattle.holds.proofs.Reshaped.{IsRoot, header-stays}
-use Rattle.holds.proofs.AnyDepth.{NoHead}
+use Rattle.holds.proofs.Reshaped.{header-stays}
 use Rattle.holds.proofs.NodeWrites.{node-new}
 use Rattle.holds.proofs.WayWrites.{grown}
-use Rattle.holds.proofs.Stack.{popped-only, PlaceOf, IsHeight, pop-rest}
+use Rattle.holds.proofs.Stack.{PlaceOf, pop-rest}
 use Rattle.holds.proofs.Linked.{Linked, chain-in}
 use Rattle.placed.proofs.Hanging.{OwnOf, leafed, leaf-only, leaf-key, leaf-value, ChainOf, EndHead, last-live, first-live, link-only, HangsAt, own, other, HangHead, hang-own, hang-chain, hang-child}
 
@@ -105,7 +105,7 @@ module _ {s : List ℕ} {q : Queue} (dq : Separate q) (w : Words s q) (h : Handl
 
   -- what is written up to the leaf, of the other slots
   taken-only : Only s takenStore cap (PlaceOf (length rest)) IsHeight
-  taken-only = popped-only s cap (length rest) (PlaceOf (length rest)) IsHeight places (refl, refl) refl
+  taken-only = only-popped s (length rest) places (refl, refl) refl
 
   room-a : Long takenStore cap
   room-a = rw (taken-only .long) (room-of w)
@@ -123,7 +123,7 @@ module _ {s : List ℕ} {q : Queue} (dq : Separate q) (w : Words s q) (h : Handl
       (chain-stays s takenStore cap (PlaceOf (length rest)) IsHeight taken-only (entries q) (live-low dq) (λ z. omega arith) (λ z. omega arith)
       (λ j n. (λ z. let y = z .1 in omega arith, λ z. let y = z .1 in omega arith)) (w .chain)))
 
-  module _ (t : List ℕ) (K : Linked leafStore t cap (lastSlot (before p)) i (firstSlot (after p))) (C : ChainOnly leafStore t cap) where
+  module _ (t : List ℕ) (K : Linked leafStore t cap (lastSlot (before p)) i (firstSlot (after p))) where
     -- the parent's link, or ROOT, is written last
     abbrev pub hungStore : List ℕ
     hungStore = withChild t cap (parent p) (sideIn p) i
@@ -133,7 +133,7 @@ module _ {s : List ℕ} {q : Queue} (dq : Separate q) (w : Words s q) (h : Handl
 
     chain-writes : Only leafStore t cap (ChainOf i live) EndHead
     chain-writes =
-        link-only leafStore t cap (lastSlot (before p)) i (firstSlot (after p)) live K C
+        link-only leafStore t cap (lastSlot (before p)) i (firstSlot (after p)) live K
         (λ j lj z. in-old j (inl (last-live cap (before p) j few lj z))) (λ j lj z. in-old j (inr (first-live cap (after p) j few lj z)))
 
     parent-live : (p′ : Way) → plug tip p′ ≡ q .tree → parent p′ < cap → In (parent p′) live
@@ -146,12 +146,12 @@ module _ {s : List ℕ} {q : Queue} (dq : Separate q) (w : Words s q) (h : Handl
 
     all-writes : Only takenStore hungStore cap (HangsAt i live) HangHead
     all-writes =
-        only-trans cap (HangsAt i live) HangHead takenStore leafStore hungStore (hang-own takenStore leafStore cap i live leaf-writes)
-        (only-trans cap (HangsAt i live) HangHead leafStore t hungStore (hang-chain leafStore t cap i live chain-writes)
+        only-trans (hang-own takenStore leafStore cap i live leaf-writes)
+        (only-trans (hang-chain leafStore t cap i live chain-writes)
         (hang-child t t cap i live (parent p) (sideIn p) (side-low p) (parent-live p e)))
 
-    child-writes : Only t hungStore cap (λ j g. (LEFT ≤ g) × (g ≤ BACK)) IsRoot
-    child-writes = let m = side-low p in only-child cap (λ j g. (LEFT ≤ g) × (g ≤ BACK)) IsRoot t (parent p) (sideIn p) i m (λ l. (omega arith, omega arith)) (λ l. refl)
+    child-writes : TreeOnly t hungStore cap
+    child-writes = let m = side-low p in only-child t (parent p) (sideIn p) i m (λ l. (omega arith, omega arith)) (λ l. refl)
 
     -- no live slot's key, value or generation; nothing of the other slots without an entry
     not-entry : (j g : ℕ) → In j live → (g < LEFT) ⊎ (NEXT < g) → ¬ (HangsAt i live j g)
@@ -241,7 +241,7 @@ module _ {s : List ℕ} {q : Queue} (dq : Separate q) (w : Words s q) (h : Handl
         let l = before p ++ (x ∷ after p) in
         let once : Once (slots l) = rw now at (pairwise-left Differ (slots (inorder (plug (leaf x) p))) (freeSlots rest) (sep .apart)) in
         let lows : All (Under cap) (slots l) = rw now at (live-low sep) in
-        chain-stays t hungStore cap (λ j g. (LEFT ≤ g) × (g ≤ BACK)) IsRoot child-writes l lows (λ z. omega arith) (λ z. omega arith) (λ j n. (λ z. omega arith, λ z. omega arith))
+        chain-stays t hungStore cap TreeField IsRoot child-writes l lows (λ z. omega arith) (λ z. omega arith) (λ j n. (λ z. omega arith, λ z. omega arith))
         (chain-in leafStore t cap (before p) x (after p) few once lows K leaf-chain)
 
     -- the way up is as it was, and the leaf hangs below its end
@@ -270,7 +270,7 @@ module _ {s : List ℕ} {q : Queue} (dq : Separate q) (w : Words s q) (h : Handl
     tree-new =
         let D : Distinct (plug tip p) = rw e (pairwise-left Differ live (freeSlots (q .free)) (dq .apart)) in
         let root = chain-writes .heads ROOT (lit< tt) (λ z. omega arith) ∙ leaf-writes .heads ROOT (lit< tt) (λ z. z) ∙ taken-only .heads ROOT (lit< tt) (λ z. omega arith) in
-        grown s t cap p tip (leaf x) few (rw (C .long) leaf-room) D (rw e (w .tree)) way-kept root leaf-links not-parent
+        grown s t cap p tip (leaf x) few (rw (K .only .long) leaf-room) D (rw e (w .tree)) way-kept root leaf-links not-parent
 
     pub hung : Words hungStore (hungQueue q x p rest)
     hung = record {

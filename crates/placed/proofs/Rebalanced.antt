@@ -22,11 +22,10 @@ use Rattle.wavl.proofs.Placed.{WayRanks, unplug-ranks}
 use Rattle.wavl.proofs.Rounds.{insert-first-stop, insert-first-up, insert-root}
 use Rattle.holds.specs.Ends.{number}
 use Rattle.holds.specs.inner.Ways.{parent}
-use Rattle.holds.proofs.Trees.{LinkOf, opened}
+use Rattle.holds.proofs.Trees.{opened}
 use Rattle.holds.proofs.Ways.{top-node, unplugged, distinct-in}
-use Rattle.holds.proofs.Writes.{only-none}
-use Rattle.holds.proofs.Reshaped.{IsRoot}
 use Rattle.holds.proofs.Parts.{under-budget}
+use Rattle.arena.proofs.Only.{only-none}
 use Rattle.holds.proofs.AnyDepth.{Came, came, came-on}
 use Rattle.placed.proofs.Restructured.{Stands, stands-on, ranked-at}
 use Rattle.placed.proofs.Turns.{side-at}
@@ -40,7 +39,7 @@ module _ (cap : ℕ) (l : List ℕ) (few : cap ≤ noSlot) where
   climb-above s e d e1 s0 [] room T w b =
       let x = opened s cap d noSlot (leaf e) e1 2 s0 (T .words .links) in
       rw (← top-reached s cap (e .slot) (e1 .slot) noSlot (sym (x .0 .back-is)) few, insert-root (leaf e) d e1 2 s0)
-      (came (record { words = T .words; only = only-none cap (LinkOf l) IsRoot s }))
+      (came (record { words = T .words; only = only-none }))
   climb-above s e d e1 s0 (step c e2 r2 s1 ∷ p) room T w b =
       let n1 = node d (leaf e) e1 2 s0 in
       let n2 = node c n1 e2 r2 s1 in
@@ -64,7 +63,7 @@ module _ (cap : ℕ) (l : List ℕ) (few : cap ≤ noSlot) where
       by : Dec (r1 ≡ 2) → r1 ≡ field s cap (e1 .slot) RANK → Came s cap l (insertAt e (step d e1 r1 s0 ∷ p)) (rebalanced s cap (e .slot) (e1 .slot))
       by (yes x) r =
           rw (← rank-fits s cap (e .slot) (e1 .slot) r1 r x, insert-first-stop e d e1 r1 s0 p x)
-          (came (record { words = T .words; only = only-none cap (LinkOf l) IsRoot s }))
+          (came (record { words = T .words; only = only-none }))
       by (no x) r =
           let t = put s cap (e1 .slot) RANK 2 in
           let w = unplug-ranks (step d e1 r1 s0 ∷ p) tip k .1 in

@@ -21,8 +21,9 @@ use Rattle.holds.specs.inner.Ways.{parent}
 use Rattle.holds.proofs.Has.{Has, Distinct, has-top}
 use Rattle.holds.proofs.Trees.{LinkOf, opened}
 use Rattle.holds.proofs.Ways.{top-node, unplugged, distinct-in}
-use Rattle.holds.proofs.Writes.{only-put}
-use Rattle.holds.proofs.AnyDepth.{Regrown, NoHead, raised-at, turned-at}
+use Rattle.arena.specs.inner.Only.{NoHead}
+use Rattle.arena.proofs.Only.{only-put}
+use Rattle.holds.proofs.AnyDepth.{Regrown, raised-at, turned-at}
 use Rattle.holds.proofs.NodeWrites.{new-rank}
 use Rattle.holds.proofs.Turned.{spread, spread-only, spread-links}
 use Rattle.holds.proofs.TurnedOnce.{lifted, lifted-only, lifted-links}
@@ -53,7 +54,7 @@ module _ (s : List ℕ) (cap : ℕ) (l : List ℕ) (few : cap ≤ noSlot) (room 
       let low = opened s cap d (parent p) a f r b (P .below) .0 .low in
       let W = LinkOf (slots (inorder x)) in
       raised-at s (put s cap (f .slot) RANK v) cap l p x (node d a f v b) few room (T .apart) (T .within) (T .words) (node-same d f v r a a b b refl refl)
-      (only-put cap W NoHead s (f .slot) RANK v low (lit< tt) (link-of x x refl (f .slot) RANK (has-top a f r b d (f .slot) refl) (omega arith) (omega arith)))
+      (only-put s (f .slot) RANK v low (lit< tt) (link-of x x refl (f .slot) RANK (has-top a f r b d (f .slot) refl) (omega arith) (omega arith)))
       (new-rank s cap (parent p) d a f r b v room (distinct-in p x (T .apart)) (P .below))
       (top-node d a f v b ∙ sym (top-node d a f r b))
 

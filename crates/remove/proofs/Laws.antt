@@ -9,16 +9,18 @@ use borrow.Author.Tests.{ltb-true, leb-false}
 use Rattle.handle.specs.Numbers.{noSlot}
 use Rattle.handle.specs.declared.Handle.{Handle}
 use Rattle.handle.specs.declared.Refusal.the-variants.{InvalidPtr}
-use Rattle.arena.specs.Words.{field, head, BACK, PREV, NEXT, GENERATION, TOP, HEIGHT}
+use Rattle.arena.specs.Words.{field, head, BACK, GENERATION, TOP, HEIGHT}
 use Rattle.arena.specs.inner.Entries.{isLive}
 use Rattle.arena.specs.inner.Slots.{freeWith, freeSlot}
 use Rattle.arena.specs.declared.slots.Freed.{Freed}
 use Rattle.arena.specs.inner.Budget.{budget}
-use Rattle.chain.specs.inner.Links.{joined, unlinkSlot}
+use Rattle.arena.proofs.Paths.{either}
+use Rattle.arena.proofs.Only.{only-none, only-trans, only-weaken, only-blank, only-pushed}
+use Rattle.chain.specs.inner.Links.{unlinkSlot}
 use Rattle.chain.proofs.Laws.{joined-only}
 use Rattle.tree.specs.inner.Links.{sideOf}
 use Rattle.tree.specs.inner.Kept.{TreeOnly}
-use Rattle.tree.proofs.Keeps.{either, only-refl, only-trans, side-small, back-only, child-only, relinked-only, node-only}
+use Rattle.tree.proofs.Keeps.{side-small, only-child, back-only, relinked-only, node-only}
 use Rattle.lower.specs.inner.Climb.{lowerOne}
 use Rattle.tree.proofs.Climb.{Settled, on-only}
 use Rattle.lower.proofs.Laws.{lower-only, climb-only}
@@ -29,7 +31,6 @@ use Rattle.remove.specs.inner.Kept.{OthersKept}
 use Rattle.remove.specs.declared.lifting.Lifted.{Lifted}
 use Rattle.remove.specs.declared.removing.Removed.{Removed}
 use Rattle.remove.specs.declared.removing.Removed as D
-use Rattle.remove.proofs.Keeps.{kept-refl, kept-trans, tree-kept, chain-kept, blank-kept, pushed-kept}
 use Rattle.remove.proofs.RemoveReads.{live-low}
 
 -- what was lifted touches the tree alone, and hung on a side
@@ -44,13 +45,14 @@ pub lift-only : (s : List ℕ) (cap m : ℕ) → LiftedWell s cap (liftOut s cap
 unfolding liftOut liftWith hungUp
 lift-only s cap m =
     let q = field s cap m BACK in
-    (only-trans _ _ _ _ (child-only s cap q (sideUnder s cap q m) _ (under-small s cap q m)) (back-only _ _ _ _), under-small s cap q m)
+    let e = under-small s cap q m in
+    (only-trans (only-child s q (sideUnder s cap q m) _ e (λ l. omega arith) (λ l. omega arith)) (back-only _ _ _ _), e)
 
 pub replaced-only : (s : List ℕ) (cap i m : ℕ) → m < cap → TreeOnly s (replaced s cap i m) cap
 unfolding replaced standing
 replaced-only s cap i m hm =
-    only-trans _ _ _ _ (node-only _ _ _ _ _ _ _ _ hm (omega arith))
-    (only-trans _ _ _ _ (back-only _ _ _ _) (only-trans _ _ _ _ (back-only _ _ _ _) (relinked-only _ _ _ _ _)))
+    only-trans (node-only _ _ _ _ _ _ _ _ hm (omega arith))
+    (only-trans (back-only _ _ _ _) (only-trans (back-only _ _ _ _) (relinked-only _ _ _ _ _)))
 
 pub bare-only : (s : List ℕ) (cap q : ℕ) → q < cap → Settled s cap (settleBare s cap q)
 unfolding settleBare
@@ -62,7 +64,7 @@ bare-only s cap q hq =
 pub settle-only : (s : List ℕ) (cap q e : ℕ) → e ≤ 1 → Settled s cap (settleAt s cap q e)
 unfolding settleAt
 settle-only s cap q e he =
-    either (Settled s cap) (leb cap q) _ _ (λ f. only-refl s cap)
+    either (Settled s cap) (leb cap q) _ _ (λ f. only-none)
     (λ f. either (Settled s cap) (isChildless s cap q) _ _ (λ g. bare-only s cap q (leb-false cap q f))
     (λ g. climb-only budget s cap q e (leb-false cap q f) he))
 
@@ -72,13 +74,13 @@ filled-only s cap i m hm =
     let x = liftOut s cap m in
     let o = lift-only s cap m in
     let t = replaced (x .0) cap i m in
-    let k : TreeOnly s t cap = only-trans s (x .0) t cap (o .0) (replaced-only (x .0) cap i m hm) in
-    either (Settled s cap) (eqb (x .1 .under) i) _ _ (λ e. only-trans s t _ cap k (settle-only t cap m (x .1 .side) (o .1)))
-    (λ e. only-trans s t _ cap k (settle-only t cap (x .1 .under) (x .1 .side) (o .1)))
+    let k : TreeOnly s t cap = only-trans (o .0) (replaced-only (x .0) cap i m hm) in
+    either (Settled s cap) (eqb (x .1 .under) i) _ _ (λ e. only-trans k (settle-only t cap m (x .1 .side) (o .1)))
+    (λ e. only-trans k (settle-only t cap (x .1 .under) (x .1 .side) (o .1)))
 
 over-only : (s : List ℕ) (cap i m : ℕ) → Settled s cap (takeOver s cap i m)
 unfolding takeOver
-over-only s cap i m = either (Settled s cap) (leb cap m) _ _ (λ e. only-refl s cap) (λ e. filled-only s cap i m (leb-false cap m e))
+over-only s cap i m = either (Settled s cap) (leb cap m) _ _ (λ e. only-none) (λ e. filled-only s cap i m (leb-false cap m e))
 
 -- taking a node out touches the tree alone
 pub take-only : (s : List ℕ) (cap i : ℕ) → Settled s cap (takeOut s cap i)
@@ -86,7 +88,7 @@ unfolding takeOut closedFrom
 take-only s cap i =
     let x = liftOut s cap i in
     let o = lift-only s cap i in
-    either (Settled s cap) (isChildless s cap i) _ _ (λ e. only-trans s (x .0) _ cap (o .0) (settle-only (x .0) cap (x .1 .under) (x .1 .side) (o .1)))
+    either (Settled s cap) (isChildless s cap i) _ _ (λ e. only-trans (o .0) (settle-only (x .0) cap (x .1 .under) (x .1 .side) (o .1)))
     (λ e. over-only s cap i (replacementOf s cap i))
 
 -- a slot freed, and an entry removed: every other entry and its handle stay
@@ -100,28 +102,28 @@ pub free-kept : (s : List ℕ) (cap i : ℕ) → i < cap → FreedWell s cap i (
 unfolding freeSlot freeWith
 free-kept s cap i hi =
     either (FreedWell s cap i) (ltb (field s cap i GENERATION) (head s TOP)) _ _
-    (λ e. either (FreedWell s cap i) (ltb (head s HEIGHT) cap) _ _ (λ f. pushed-kept s cap i hi _ _ (ltb-true _ cap f)) (λ f. kept-refl s cap i))
-    (λ e. blank-kept s cap i hi noSlot)
+    (λ e. either (FreedWell s cap i) (ltb (head s HEIGHT) cap) _ _
+    (λ f. only-pushed s i _ _ hi (ltb-true _ cap f) (λ g l n. omega arith) (λ n. omega arith) (omega arith)) (λ f. only-none))
+    (λ e. only-blank s i noSlot hi (λ g l m n. omega arith))
 
 pub let-go-kept : (s : List ℕ) (cap i : ℕ) → i < cap → FreedWell s cap i (letGo s cap i)
 unfolding letGo unlinkSlot
 let-go-kept s cap i hi =
-    let t = joined s cap (field s cap i PREV) (field s cap i NEXT) in
-    kept-trans s t _ cap i (chain-kept s t cap i (joined-only s cap _ _)) (free-kept t cap i hi)
+    only-trans (joined-only s cap _ _ (λ l n. omega arith) (λ l n. omega arith) (λ l. omega arith) (λ l. omega arith)) (free-kept _ cap i hi)
 
 pub live-kept : (s : List ℕ) (cap i : ℕ) → i < cap → RemovedWell s cap i (removeLive s cap i)
 unfolding removeLive
 live-kept s cap i hi =
     let x = takeOut s cap i in
-    let o : OthersKept s (x .0) cap i = tree-kept s (x .0) cap i (take-only s cap i) in
-    either (RemovedWell s cap i) (x .1) _ _ (λ e. kept-trans s (x .0) _ cap i o (let-go-kept (x .0) cap i hi)) (λ e. o)
+    let o : OthersKept s (x .0) cap i = only-weaken (λ j g hj z n. omega arith) (λ h z. omega arith) (take-only s cap i) in
+    either (RemovedWell s cap i) (x .1) _ _ (λ e. only-trans o (let-go-kept (x .0) cap i hi)) (λ e. o)
 
 module _ (s : List ℕ) (cap : ℕ) (h : Handle) where
   pub remove-kept : RemovedWell s cap (h .slot .0) (removeBy s cap h)
   unfolding removeBy
   remove-kept =
       either (RemovedWell s cap (h .slot .0)) (isLive s cap h) _ _ (λ e. live-kept s cap (h .slot .0) (live-low s cap h true (sym e) refl))
-      (λ e. kept-refl s cap (h .slot .0))
+      (λ e. only-none)
 
   -- "Each refusal returns its number alone and changes nothing."
   pub dead-refused : isLive s cap h ≡ false → removeBy s cap h ≡ (s, D.the-variants.Refused InvalidPtr)

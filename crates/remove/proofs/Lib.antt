@@ -1,5 +1,4 @@
 pub mod LiftReads
 pub mod TakeReads
 pub mod RemoveReads
-pub mod Keeps
 pub mod Laws

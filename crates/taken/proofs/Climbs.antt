@@ -11,6 +11,7 @@ use Rattle.handle.specs.Numbers.{noSlot}
 use Rattle.arena.specs.Words.{Long, put, RANK}
 use Rattle.arena.specs.inner.Budget.{budget}
 use Rattle.arena.proofs.Laws.{length-put}
+use Rattle.arena.proofs.Only.{only-none, only-trans}
 use Rattle.wavl.specs.Lists.{In}
 use Rattle.wavl.specs.Entry.{Entry, slots}
 use Rattle.wavl.specs.Tree.{Side, left, right, other, Tree, tip, fork, node, rank, entry, child, inorder}
@@ -31,7 +32,7 @@ use Rattle.holds.proofs.AnyDepth.{Regrown, Came}
 use Rattle.holds.proofs.Has.{Has, Distinct}
 use Rattle.holds.proofs.Trees.{opened}
 use Rattle.holds.proofs.Ways.{Parted, unplugged}
-use Rattle.taken.proofs.Kept.{TreeOnly, tree-none, tree-trans}
+use Rattle.taken.proofs.Kept.{LinksOnly}
 use Rattle.taken.proofs.Turns.{once-turned, twice-turned}
 use Rattle.taken.proofs.Lowered.{as-node, top-entry, node-other, lowered, upTo, goes-up}
 use Rattle.taken.proofs.Climbing.{peak, peak-above, Climbing, climbUp}
@@ -80,17 +81,17 @@ module _ (s : List ℕ) (cap : ℕ) (few : cap ≤ noSlot) (l : List ℕ) (d : S
   top : r1 < budget
   top = let h = peak-above r1 q (c .way .2) in let i = c .low in omega arith
 
-  ended : (t : List ℕ) (x : Tree) → climbTurn s cap i1 (number d) ≡ (t, Done) → TreeWords t cap x → TreeOnly s t cap l
+  ended : (t : List ℕ) (x : Tree) → climbTurn s cap i1 (number d) ≡ (t, Done) → TreeWords t cap x → LinksOnly s t cap l
       → removeClimb n0 (step d e1 r1 s0 ∷ q) ≡ x → Out
   unfolding climbFrom
   ended t x e v o r = rw (e, r) (record { yes = refl; words = v; only = o })
 
-  goes-on : (t : List ℕ) (x : Tree) → climbTurn s cap i1 (number d) ≡ onward t cap i1 → goUp t cap i1 ≡ upTo q → Climbing t cap l x q → TreeOnly s t cap l
+  goes-on : (t : List ℕ) (x : Tree) → climbTurn s cap i1 (number d) ≡ onward t cap i1 → goUp t cap i1 ≡ upTo q → Climbing t cap l x q → LinksOnly s t cap l
       → removeClimb n0 (step d e1 r1 s0 ∷ q) ≡ removeClimb x q → Out
   unfolding climbFrom onward
   goes-on t x e g k o r =
       let i = rest t x k in
-      rw (e, r, g, onward-is q fuel t cap) (record { yes = i .yes; words = i .words; only = tree-trans cap l s t _ o (i .only) })
+      rw (e, r, g, onward-is q fuel t cap) (record { yes = i .yes; words = i .words; only = only-trans o (i .only) })
 
   -- n1's way, once n1 is lower by one
   lower-way : 1 ≤ r1 → WayRanks (suc (r1 - 1)) q × (peak (suc (r1 - 1)) q < budget)
@@ -98,7 +99,7 @@ module _ (s : List ℕ) (cap : ℕ) (few : cap ≤ noSlot) (l : List ℕ) (d : S
 
   pub stops : r1 ≤ rank n0 + 2 → Out
   stops h =
-      ended s (plug n1 q) (turn-ends s cap few d n0 e1 r1 s0 q w (omega (arith, top)) h) W (tree-none cap l s) (remove-stop n0 d e1 r1 s0 q h)
+      ended s (plug n1 q) (turn-ends s cap few d n0 e1 r1 s0 q w (omega (arith, top)) h) W only-none (remove-stop n0 d e1 r1 s0 q h)
 
   -- n1 is three above n0
   module _ (h : ¬ (r1 ≤ rank n0 + 2)) where
@@ -238,7 +239,7 @@ module _ (s : List ℕ) (cap : ℕ) (few : cap ≤ noSlot) (l : List ℕ) (d : S
             some = omega arith;
             low = z .1;
           })
-          (tree-trans cap l s s1 t (first .only) (v .only))
+          (only-trans (first .only) (v .only))
           (remove-lower-both n0 d e1 r1 s0 q h g k m)
 
       -- a, the inner child of s0, is there and rises
@@ -295,7 +296,7 @@ unfolding plug
 climbs cap few l [] fuel s n0 h c = root
   where
     root : Came s cap l (removeClimb n0 []) (s, true)
-    root = rw (remove-root n0) (record { yes = refl; words = c .words; only = tree-none cap l s })
+    root = rw (remove-root n0) (record { yes = refl; words = c .words; only = only-none })
 climbs cap few l (step d e1 r1 s0 ∷ q) zero s n0 h c = absurd (omega arith)
 climbs cap few l (step d e1 r1 s0 ∷ q) (suc fuel) s n0 h c =
     turned s cap few l d n0 e1 r1 s0 q fuel c (λ t x k. climbs cap few l q fuel t x (omega arith) k)

@@ -11,8 +11,9 @@ use borrow.Author.Tests.{eq-eqb, ne-eqb}
 use Rattle.handle.specs.Numbers.{noSlot}
 use lib.Dec.{eqb}
 use Rattle.arena.specs.Branch.{ifte}
-use Rattle.arena.specs.Words.{Long}
 use Rattle.arena.specs.inner.Budget.{budget}
+use Rattle.arena.specs.Words.{Long}
+use Rattle.arena.proofs.Only.{only-trans, only-weaken}
 use Rattle.wavl.specs.Lists.{In}
 use Rattle.wavl.specs.Entry.{Entry, slots}
 use Rattle.wavl.specs.Tree.{Side, left, Tree, tip, fork, node, pick, rank, inorder}
@@ -24,10 +25,6 @@ use Rattle.holds.specs.Links.{TreeWords}
 use Rattle.holds.specs.inner.Ways.{parent, sideIn}
 use Rattle.holds.proofs.Has.{Has, Distinct, has-top}
 use Rattle.holds.proofs.Ways.{unplugged, HasWay, has-plug, above-apart}
-use Rattle.holds.proofs.Trees.{LinkOf}
-use Rattle.holds.proofs.Reshaped.{IsRoot}
-use Rattle.holds.proofs.Writes.{only-weaken}
-use Rattle.taken.proofs.Kept.{tree-trans}
 use Rattle.holds.proofs.AnyDepth.{Came}
 use Rattle.taken.proofs.Climbing.{peak}
 use Rattle.taken.proofs.Settled.{closing, settled}
@@ -61,7 +58,7 @@ module _ (d : Side) (x e : Entry) (r : ℕ) (b : Tree) (p : Way) where
 
 pub came-weaken : (s : List ℕ) (cap : ℕ) (l m : List ℕ) (t : Tree) (y : List ℕ × Bool) → ((j : ℕ) → In j l → In j m) → Came s cap l t y → Came s cap m t y
 came-weaken s cap l m t y f k =
-    record { yes = k .yes; words = k .words; only = only-weaken s (y .0) cap (LinkOf l) (LinkOf m) IsRoot IsRoot (λ j g z. record { slot-in = f j (z .slot-in); field-is = z .field-is }) (λ h z. z) (k .only) }
+    record { yes = k .yes; words = k .words; only = only-weaken (λ j g hj z. record { slot-in = f j (z .slot-in); field-is = z .field-is }) (λ h z. z) (k .only) }
 
 module _ (s : List ℕ) (cap : ℕ) (few : cap ≤ noSlot) (room : Long s cap) (c : Tree) (e : Entry) (q : ℕ) (w : Way) (d : Side) (x : Entry) (r : ℕ) (b : Tree) (p : Way) where
   abbrev M : Tree
@@ -165,6 +162,6 @@ module _ (s : List ℕ) (cap : ℕ) (few : cap ≤ noSlot) (room : Long s cap) (
         rw filled-is (record {
           yes = k .yes;
           words = k .words;
-          only = tree-trans cap l s s1 _ (lifted-only s cap few room c e q (P x) D W l (λ j h. h))
-              (tree-trans cap l s1 s2 _ (stands-only s1 cap few room1 (pick d (plug c w) b) x r (pick d b (plug c w)) p D1 W1 e lowm gone l was m-in) (k .only));
+          only = only-trans (lifted-only s cap few room c e q (P x) D W l (λ j h. h))
+              (only-trans (stands-only s1 cap few room1 (pick d (plug c w) b) x r (pick d b (plug c w)) p D1 W1 e lowm gone l was m-in) (k .only));
         })

@@ -9,6 +9,7 @@ use borrow.Author.Tests.{lt-ltb, le-ltb, eq-eqb, ne-eqb}
 use lib.Dec.{lit<}
 use Rattle.handle.specs.Numbers.{noSlot}
 use Rattle.arena.specs.Words.{Long, field, head, LEFT, RIGHT, ROOT}
+use Rattle.arena.proofs.Only.{only-trans}
 use Rattle.wavl.specs.Lists.{In, Differ}
 use Rattle.wavl.specs.Entry.{Entry, slots}
 use Rattle.wavl.specs.Tree.{left, Tree, tip, fork, inorder}
@@ -25,11 +26,10 @@ use Rattle.holds.specs.inner.Ways.{parent, sideIn, LinksWay}
 use Rattle.holds.proofs.Has.{Has, Distinct, Apart, apart, has-top, has-near}
 use Rattle.holds.proofs.Trees.{number-small, SameLinks, slot-low}
 use Rattle.holds.proofs.Ways.{Parted, unplugged, plugged, distinct-in, HasWay, has-plug, has-way, way-apart}
-use Rattle.holds.proofs.Writes.{only-back}
 use Rattle.holds.proofs.WayWrites.{way-stays, hook-stays, hook-new, way-hooked, links-hooked}
 use Rattle.holds.proofs.NodeWrites.{touch-back, new-back}
 use Rattle.holds.proofs.Turned.{top-has}
-use Rattle.taken.proofs.Kept.{TreeOnly, tree-trans, tree-back, tree-child}
+use Rattle.taken.proofs.Kept.{LinksOnly, tree-back, tree-child}
 use Rattle.taken.proofs.Lowered.{hung-side}
 
 side-in-small : (p : Way) → sideIn p ≤ 1
@@ -84,10 +84,9 @@ module _ (s : List ℕ) (cap : ℕ) (few : cap ≤ noSlot) (room : Long s cap) (
   unfolding liftOut liftWith hungUp
   lift-is = rw (only-child-is, W .below .0 .back-is, side-under-is)
 
-  pub lifted-only : (l : List ℕ) → ((j : ℕ) → Has j (plug M p) → In j l) → TreeOnly s lifted cap l
+  pub lifted-only : (l : List ℕ) → ((j : ℕ) → Has j (plug M p) → In j l) → LinksOnly s lifted cap l
   lifted-only l f =
-      tree-trans cap l s s1 lifted
-      (tree-child cap l s (parent p) (sideIn p) (topSlot c) (side-in-small p) (λ low. f (parent p) (has-way (parent p) p M (parent-on cap few p low))))
+      only-trans (tree-child cap l s (parent p) (sideIn p) (topSlot c) (side-in-small p) (λ low. f (parent p) (has-way (parent p) p M (parent-on cap few p low))))
       (tree-back cap l s1 (topSlot c) (parent p) (λ low. f (topSlot c) (has-plug (topSlot c) p M (has-near c e r tip left (topSlot c) (top-has cap c few low)))))
 
   room1 : Long s1 cap
@@ -107,10 +106,10 @@ module _ (s : List ℕ) (cap : ℕ) (few : cap ≤ noSlot) (room : Long s cap) (
 
   -- the last write is c's top's alone
   keep : (j : ℕ) → j < cap → HasWay j p → SameLinks s1 lifted cap j
-  keep j low h = touch-back s1 cap (topSlot c) (parent p) j low (λ z. off j h (rw z (top-has cap c few (rw z at low))))
+  keep j low h g f = touch-back s1 cap (topSlot c) (parent p) .slots j g low (omega arith) (λ z. off j h (rw z (top-has cap c few (rw z at low))))
 
   root : head lifted ROOT ≡ head s1 ROOT
-  root = only-back cap (λ j g. Unit {0}) (λ h. ⊥) s1 (topSlot c) (parent p) (λ z. tt) .heads ROOT (lit< tt) (λ z. z)
+  root = touch-back s1 cap (topSlot c) (parent p) .heads ROOT (lit< tt) (λ z. z)
 
   way : LinksWay s1 cap p
   way = way-hooked s cap few (topSlot c) p M D (W .way)

@@ -7,9 +7,10 @@ use native.Mathlib.Omega.{arith}
 use borrow.Author.Tests.{lt-ltb, le-ltb, eq-eqb, ne-eqb, lt-leb}
 use Rattle.handle.specs.Numbers.{noSlot}
 use Rattle.arena.specs.Words.{Long, field, put, LEFT, RIGHT, RANK}
+use Rattle.arena.proofs.Only.{only-put}
 use Rattle.wavl.specs.Lists.{In}
-use Rattle.wavl.specs.Entry.{Entry, slots}
-use Rattle.wavl.specs.Tree.{Side, left, right, other, Tree, tip, fork, node, rank, entry, child, inorder}
+use Rattle.wavl.specs.Entry.{Entry}
+use Rattle.wavl.specs.Tree.{Side, left, right, other, Tree, tip, fork, node, rank, entry, child}
 use Rattle.wavl.specs.Way.{step, Way, plug}
 use Rattle.wavl.proofs.Order.{node-same}
 use Rattle.tree.specs.inner.Links.{rankOf, sideOf}
@@ -20,12 +21,11 @@ use Rattle.holds.specs.Ends.{topSlot, number}
 use Rattle.holds.specs.Links.{Links, TreeWords}
 use Rattle.holds.specs.inner.Ways.{parent}
 use Rattle.holds.proofs.Has.{Has, Distinct, has-top}
-use Rattle.holds.proofs.Trees.{LinkOf, opened, slot-low}
+use Rattle.holds.proofs.Trees.{opened, slot-low}
 use Rattle.holds.proofs.Ways.{Parted, unplugged, distinct-in}
-use Rattle.holds.proofs.Writes.{only-put}
 use Rattle.holds.proofs.WayWrites.{one-sided}
 use Rattle.holds.proofs.NodeWrites.{new-rank}
-use Rattle.holds.proofs.AnyDepth.{NoHead, Regrown, raised-at}
+use Rattle.holds.proofs.AnyDepth.{Regrown, raised-at}
 
 -- a tree that is none missing, over the side
 pub as-node : (d : Side) (x : Tree) → 1 ≤ rank x → x ≡ node d (child d x) (entry x) (rank x) (child (other d) x)
@@ -51,7 +51,7 @@ module _ (s : List ℕ) (cap : ℕ) (few : cap ≤ noSlot) (room : Long s cap) (
       let w = unplugged s cap p x T .below in
       let o = opened s cap d (parent p) a e q b w .0 in
       raised-at s (put s cap (e .slot) RANK r) cap l p x (node d a e r b) few room D within T (node-same d e r q a a b b refl refl)
-      (only-put cap (LinkOf (slots (inorder x))) NoHead s (e .slot) RANK r (o .low) (omega arith)
+      (only-put s (e .slot) RANK r (o .low) (omega arith)
       (record { slot-in = has-top a e q b d (e .slot) refl; field-is = record { from = omega arith; to = omega arith } }))
       (new-rank s cap (parent p) d a e q b r room (distinct-in p x D) w) refl
 

@@ -9,6 +9,8 @@ use native.Mathlib.Omega.{arith}
 use lib.ListN.{length, length-append}
 use Rattle.handle.specs.Numbers.{noSlot}
 use Rattle.arena.specs.Words.{Long, field, KEY, PREV, NEXT, GENERATION, VALUE, STACK}
+use Rattle.arena.specs.inner.Only.{Only, NoHead, IsHeight}
+use Rattle.arena.proofs.Only.{only-blank, only-pushed}
 use Rattle.arena.specs.inner.Laying.{blankOf}
 use Rattle.arena.specs.inner.Slots.{pushed, freeSlot}
 use Rattle.arena.specs.declared.slots.Freed as F
@@ -25,12 +27,10 @@ use Rattle.holds.specs.Chain.{ChainWords}
 use Rattle.holds.specs.Entries.{EntryWords, AllEntries}
 use Rattle.holds.specs.Free.{Retired}
 use Rattle.holds.specs.Holds.{HeaderWords, Unused, Words}
-use Rattle.holds.specs.inner.Writes.{Only}
 use Rattle.holds.proofs.Parts.{Separate, used-few, live-low, free-low, free-not-live}
 use Rattle.holds.proofs.Groups.{unused-stays, tree-stays, chain-stays, entries-stay, stack-stays, retired-stays}
 use Rattle.holds.proofs.Reshaped.{header-stays}
-use Rattle.holds.proofs.Stack.{IsHeight}
-use Rattle.holds.proofs.Freed.{blank-only, free-again, free-last, retire, PushedAt, own, stacked, pushed-only, push-first}
+use Rattle.holds.proofs.Freed.{free-again, free-last, retire, push-first}
 use Rattle.taken.proofs.Unchained.{Out}
 
 -- the slot i, or a place of the stack
@@ -134,11 +134,7 @@ module _ (s u : List ℕ) (q : Queue) (d : Separate q) (l : List Entry) (x : Ent
 
   -- "Removal raises it by one and frees the slot."
   again-only : Only u (pushed u cap i (length free) (x .generation)) cap (FreedAt i) IsHeight
-  again-only = pushed-only u cap i (length free) (x .generation) hi few-free (FreedAt i) IsHeight at refl
-    where
-      at : (j f : ℕ) → PushedAt i (length free) j f → FreedAt i j f
-      at j f (own e z) = inl e
-      at j f (stacked e z) = inr z
+  again-only = only-pushed u i (length free) (x .generation) hi few-free (λ g z. inl refl) (inr refl) refl
 
   again : (e : x .generation < q .top) → Words (pushed u cap i (length free) (x .generation)) (after (yes e))
   unfolding freed freeSlots
@@ -160,13 +156,13 @@ module _ (s u : List ℕ) (q : Queue) (d : Separate q) (l : List Entry) (x : Ent
   last = blankOf u cap i noSlot
 
   last-only : Only u last cap (FreedAt i) IsHeight
-  last-only = blank-only u cap i noSlot hi (FreedAt i) IsHeight (λ g z n. inl refl)
+  last-only = only-blank u i noSlot hi (λ g z n. inl refl)
 
   abbrev OwnAt : ℕ → ℕ → Type 0
   OwnAt j g = (j ≡ i) × (g < STACK)
 
-  own-only : Only u last cap OwnAt (λ h. ⊥)
-  own-only = blank-only u cap i noSlot hi OwnAt (λ h. ⊥) (λ g z n. (refl, z))
+  own-only : Only u last cap OwnAt NoHead
+  own-only = only-blank u i noSlot hi (λ g z n. (refl, z))
 
   overflow : x .generation ≡ q .top → (e : ¬ (x .generation < q .top)) → Words last (after (no e))
   unfolding freed
@@ -177,7 +173,7 @@ module _ (s u : List ℕ) (q : Queue) (d : Separate q) (l : List Entry) (x : Ent
         tree = tree last last-only;
         chain = chain last last-only;
         live = live last last-only;
-        free = stack-stays u last cap OwnAt (λ h. ⊥) own-only free (let z = few-free in omega arith) (free-low d) (λ z. z) (λ p z. let y = z .1 in omega arith)
+        free = stack-stays u last cap OwnAt NoHead own-only free (let z = few-free in omega arith) (free-low d) (λ z. z) (λ p z. let y = z .1 in omega arith)
             (λ j z f y w. not-free (rw (w .0) at z)) (k .free);
         retired = λ j z n. retired j z n (ℕ-discrete j i);
         unused = unused last last-only;

@@ -12,6 +12,7 @@ use Rattle.handle.specs.Numbers.{noSlot}
 use Rattle.arena.specs.Words.{Long, field, put, LEFT, RIGHT, RANK}
 use Rattle.arena.specs.inner.Budget.{budget}
 use Rattle.arena.proofs.Laws.{length-put}
+use Rattle.arena.proofs.Only.{only-none, only-trans}
 use Rattle.wavl.specs.Lists.{Once}
 use Rattle.wavl.specs.Entry.{Entry, slots}
 use Rattle.wavl.specs.Tree.{Side, left, right, Tree, tip, fork, node, rank, leaf, inorder}
@@ -29,7 +30,6 @@ use Rattle.holds.specs.Links.{Links, TreeWords}
 use Rattle.holds.specs.inner.Ways.{parent, sideIn}
 use Rattle.holds.proofs.Has.{Distinct}
 use Rattle.holds.proofs.Ways.{unplugged}
-use Rattle.taken.proofs.Kept.{tree-none, tree-trans}
 use Rattle.taken.proofs.Lowered.{lowered, goes-up}
 use Rattle.holds.proofs.AnyDepth.{Came}
 use Rattle.taken.proofs.Climbing.{peak, peak-above}
@@ -147,12 +147,12 @@ module _ (cap : ℕ) (few : cap ≤ noSlot) (l : List ℕ) (s : List ℕ) where
         goes-up t cap few d tip e 1 tip p D1 (v .words),
         onward-is p budget t cap,
       )
-      (record { yes = y .yes; words = y .words; only = tree-trans cap l s t _ (v .only) (y .only) })
+      (record { yes = y .yes; words = y .words; only = only-trans (v .only) (y .only) })
 
   pub settled : (c : Tree) (p : Way) → Lifting s cap l c p → Came s cap l (closing c p) (settleAt s cap (parent p) (sideIn p))
   unfolding plug
-  settled tip [] k = rw (at-root, settle-root) (record { yes = refl; words = k .words; only = tree-none cap l s })
-  settled (fork a f q b) [] k = rw (at-root, remove-root (fork a f q b)) (record { yes = refl; words = k .words; only = tree-none cap l s })
+  settled tip [] k = rw (at-root, settle-root) (record { yes = refl; words = k .words; only = only-none })
+  settled (fork a f q b) [] k = rw (at-root, remove-root (fork a f q b)) (record { yes = refl; words = k .words; only = only-none })
   settled tip (step d e r tip ∷ p) k = bared d e r p k
   settled tip (step d e r (fork a f q b) ∷ p) k =
       let x = unplugged s cap (step d e r (fork a f q b) ∷ p) tip (k .words) in

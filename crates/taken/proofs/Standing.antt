@@ -8,6 +8,8 @@ use native.Mathlib.Omega.{arith}
 use lib.Dec.{lit<}
 use Rattle.handle.specs.Numbers.{noSlot}
 use Rattle.arena.specs.Words.{Long, ROOT}
+use Rattle.arena.specs.inner.Only.{Only, NoHead}
+use Rattle.arena.proofs.Only.{only-trans, only-room, only-weaken}
 use Rattle.wavl.specs.Lists.{In, Differ}
 use Rattle.wavl.specs.Entry.{Entry, slots}
 use Rattle.wavl.specs.Tree.{left, Tree, fork, inorder}
@@ -16,22 +18,19 @@ use Rattle.wavl.proofs.Lists.{all-of}
 use Rattle.wavl.proofs.Rising.{node-around}
 use Rattle.rules.proofs.Lists.{slots-put, once-put, once-drop, in-put, in-drop}
 use Rattle.tree.specs.inner.Links.{withBack, withNode, relinked}
+use Rattle.tree.proofs.Keeps.{only-back, only-node}
 use Rattle.remove.specs.inner.Lift.{standing, replaced}
 use Rattle.holds.specs.Ends.{topSlot}
 use Rattle.holds.specs.Links.{Node, Links, TreeWords}
 use Rattle.holds.specs.inner.Ways.{parent}
-use Rattle.holds.specs.inner.Writes.{Only}
 use Rattle.holds.proofs.Has.{Has, Distinct, Apart, apart, has-cases, has-top, has-near, has-far}
 use Rattle.holds.proofs.Trees.{LinkOf, carry, carry-node, slot-low}
 use Rattle.holds.proofs.Ways.{Parted, unplugged, distinct-in, HasWay, has-plug, has-way, way-apart}
-use Rattle.holds.proofs.Writes.{only-trans, only-back, only-node, only-weaken}
 use Rattle.holds.proofs.Groups.{same-links}
 use Rattle.holds.proofs.WayWrites.{regrown}
-use Rattle.holds.proofs.NodeWrites.{touch-node, touch-back, length-back, length-node, node-new, new-back}
+use Rattle.holds.proofs.NodeWrites.{touch-node, touch-back, node-new, new-back}
 use Rattle.holds.proofs.Turned.{top-off, top-has}
-use Rattle.holds.proofs.Reshaped.{IsRoot}
-use Rattle.holds.proofs.AnyDepth.{NoHead}
-use Rattle.taken.proofs.Kept.{TreeOnly, tree-trans, tree-relinked}
+use Rattle.taken.proofs.Kept.{LinksOnly, tree-relinked}
 use Rattle.taken.proofs.Lifted.{parent-on}
 
 module _ (s : List ℕ) (cap : ℕ) (few : cap ≤ noSlot) (room : Long s cap) (a : Tree) (x : Entry) (r : ℕ) (b : Tree) (p : Way)
@@ -81,10 +80,10 @@ module _ (s : List ℕ) (cap : ℕ) (few : cap ≤ noSlot) (room : Long s cap) (
   stands-is = rw (W .below .0 .near-is, W .below .0 .far-is, W .below .0 .back-is, W .below .0 .rank-is)
 
   room1 : Long s1 cap
-  room1 = rw (length-node s cap 0 m (parent p) (topSlot a) (topSlot b) r (omega arith) lowm) room
+  room1 = only-room (touch-node s cap 0 m (parent p) (topSlot a) (topSlot b) r (omega arith) lowm) room
 
   room2 : Long s2 cap
-  room2 = rw (length-back s1 cap (topSlot a) m) room1
+  room2 = only-room (touch-back s1 cap (topSlot a) m) room1
 
   -- the first write leaves a tree without m; the others one apart from a, or from b
   first : (y : Tree) (back : ℕ) → ¬ (Has m y) → Links s cap back y → Links s1 cap back y
@@ -114,12 +113,10 @@ module _ (s : List ℕ) (cap : ℕ) (few : cap ≤ noSlot) (room : Long s cap) (
 
   only : Only s s3 cap (LinkOf L) NoHead
   only =
-      only-trans cap (LinkOf L) NoHead s s1 s3
-      (only-node cap (LinkOf L) NoHead s 0 m (parent p) (topSlot a) (topSlot b) r (omega arith) lowm (λ g y z. record { slot-in = inl refl; field-is = record { from = y; to = z } }))
-      (only-trans cap (LinkOf L) NoHead s1 s2 s3
-      (only-back cap (LinkOf L) NoHead s1 (topSlot a) m
+      only-trans (only-node s 0 m (parent p) (topSlot a) (topSlot b) r (omega arith) lowm (λ g y z. record { slot-in = inl refl; field-is = record { from = y; to = z } }))
+      (only-trans (only-back s1 (topSlot a) m
       (λ l. record { slot-in = inr (has-near a x r b left (topSlot a) (top-has cap a few l)); field-is = record { from = omega arith; to = omega arith } }))
-      (only-back cap (LinkOf L) NoHead s2 (topSlot b) m
+      (only-back s2 (topSlot b) m
       (λ l. record { slot-in = inr (has-far a x r b left (topSlot b) (top-has cap b few l)); field-is = record { from = omega arith; to = omega arith } })))
 
   off : (j : ℕ) → HasWay j p → ¬ (In j L)
@@ -141,10 +138,9 @@ module _ (s : List ℕ) (cap : ℕ) (few : cap ≤ noSlot) (room : Long s cap) (
       (λ h. off (parent p) (parent-on cap few p (slot-low s3 cap new (parent p) links (parent p) h)) (within (parent p) h))
       (has-top a x r b left i refl) (W .below .0 .low)
 
-  pub stands-only : (l : List ℕ) → ((j : ℕ) → Has j (plug old p) → In j l) → In m l → TreeOnly s stood cap l
+  pub stands-only : (l : List ℕ) → ((j : ℕ) → Has j (plug old p) → In j l) → In m l → LinksOnly s stood cap l
   stands-only l f h =
-      tree-trans cap l s s3 stood
-      (only-weaken s s3 cap (LinkOf L) (LinkOf l) NoHead IsRoot (λ j g z. record { slot-in = go j (z .slot-in); field-is = z .field-is }) (λ j z. absurd z) only)
+      only-trans (only-weaken (λ j g hj z. record { slot-in = go j (z .slot-in); field-is = z .field-is }) (λ j z. absurd z) only)
       (tree-relinked cap l s3 (parent p) i m (λ low. f (parent p) (has-way (parent p) p old (parent-on cap few p low))))
     where
       go : (j : ℕ) → In j L → In j l

@@ -7,8 +7,9 @@ use mathlib.Core.List.{List, [], _∷_, _++_}
 use native.Mathlib.Omega.{arith}
 use borrow.Author.Tests.{eq-eqb, ne-eqb, lt-leb}
 use Rattle.handle.specs.Numbers.{noSlot}
-use Rattle.arena.specs.Words.{Long, field, LEFT, PREV, NEXT}
 use Rattle.arena.specs.inner.Budget.{budget}
+use Rattle.arena.specs.Words.{Long, field, LEFT, PREV, NEXT}
+use Rattle.arena.proofs.Only.{only-trans}
 use Rattle.wavl.specs.Entry.{Entry, slots}
 use Rattle.wavl.specs.Tree.{left, right, Tree, tip, fork, rank, inorder}
 use Rattle.wavl.specs.Way.{step, Way, plug}
@@ -22,7 +23,6 @@ use Rattle.holds.specs.Links.{TreeWords}
 use Rattle.holds.specs.Chain.{ChainWords}
 use Rattle.holds.proofs.Has.{Distinct}
 use Rattle.holds.proofs.Ways.{unplugged}
-use Rattle.taken.proofs.Kept.{tree-trans}
 use Rattle.holds.proofs.AnyDepth.{Came}
 use Rattle.taken.proofs.Settled.{closing, childless, has-left-child, has-right-child, settled}
 use Rattle.taken.proofs.Lifted.{lifted, lift-is, lifted-only, lifted-room, lifted-words, lifted-distinct, lifted-member}
@@ -78,7 +78,7 @@ leaf-out s cap x r p k =
       low = rw one at (rw (peak-rank p M) at (k .low));
     })) in
     rw (leaf-is s cap (x .slot) 0 (childless s cap (x .slot) (W .below .0 .near-is) (W .below .0 .far-is)), lift-is s cap (k .few) (k .room) tip x r p (k .distinct) (k .words))
-    (record { yes = y .yes; words = y .words; only = tree-trans cap l s t _ (lifted-only s cap (k .few) (k .room) tip x r p (k .distinct) (k .words) l (λ j h. h)) (y .only) })
+    (record { yes = y .yes; words = y .words; only = only-trans (lifted-only s cap (k .few) (k .room) tip x r p (k .distinct) (k .words) l (λ j h. h)) (y .only) })
 
 -- a node with a left child, by the last node there
 module _ (s : List ℕ) (cap : ℕ) (a : Tree) (f : Entry) (q : ℕ) (c : Tree) (x : Entry) (r : ℕ) (b : Tree) (p : Way) (k : Taking s cap (plug (fork (fork a f q c) x r b) p)) where

@@ -4,6 +4,7 @@ use Prim.Native.Nat.{ℕ, _≤_}
 use mathlib.Core.List.{List, append-assoc}
 use Rattle.handle.specs.Numbers.{noSlot}
 use Rattle.arena.specs.Words.{Long, LEFT, BACK}
+use Rattle.arena.specs.inner.Only.{NoHead}
 use Rattle.wavl.specs.Lists.{In}
 use Rattle.wavl.specs.Entry.{Entry, slots}
 use Rattle.wavl.specs.Tree.{Side, left, right, Tree, node, inorder}
@@ -17,7 +18,7 @@ use Rattle.holds.proofs.Trees.{LinkOf, opened}
 use Rattle.holds.proofs.Ways.{unplugged, distinct-in}
 use Rattle.holds.proofs.Turned.{spread, spread-only, spread-links}
 use Rattle.holds.proofs.TurnedOnce.{rolled, rolled-only, rolled-links}
-use Rattle.holds.proofs.AnyDepth.{NoHead, Regrown, turned-at}
+use Rattle.holds.proofs.AnyDepth.{Regrown, turned-at}
 
 once-same : (d : Side) (n0 : Tree) (e1 : Entry) (r1 q1 : ℕ) (a : Tree) (e0 : Entry) (r0 : ℕ) (b : Tree)
     → Same (node d (node d n0 e1 q1 a) e0 r1 b) (node d n0 e1 r1 (node d a e0 r0 b))

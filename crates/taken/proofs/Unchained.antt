@@ -2,18 +2,21 @@
 -- A reader may rely on: only links of live slots, and ROOT, FIRST and LAST, are written.
 use Prim.Native.Nat.{ℕ, _≤_, _<_}
 use mathlib.Core.Path.{_≡_, ap, _∙_}
-use mathlib.Core.Logic.{_⊎_, inl, inr}
+use mathlib.Core.Logic.{inl, inr}
 use mathlib.Core.List.{List, [], _∷_, _++_}
 use native.Mathlib.Omega.{arith}
+use native.Mathlib.Decide.{ℕ-discrete}
 use Rattle.handle.specs.Numbers.{noSlot}
-use Rattle.arena.specs.Words.{Long, LEFT, BACK, PREV, NEXT, FIRST, LAST, ROOT}
+use Rattle.arena.specs.Words.{Long, LEFT, PREV, NEXT, FIRST, ROOT}
+use Rattle.arena.specs.inner.Only.{Only}
+use Rattle.arena.proofs.Only.{only-trans, only-room, only-weaken}
 use Rattle.wavl.specs.Lists.{All, In, Differ, Once}
 use Rattle.wavl.specs.Entry.{Entry, slots}
 use Rattle.wavl.specs.Tree.{Tree}
 use Rattle.wavl.proofs.Lists.{in-left, in-right, pairwise-left}
 use Rattle.chain.specs.inner.Links.{joined, unlinkSlot}
 use Rattle.chain.specs.declared.Neighbours.{Neighbours}
-use Rattle.chain.proofs.Laws.{unlink-is, joined-only, joined-field}
+use Rattle.chain.proofs.Laws.{unlink-is}
 use Rattle.rules.specs.Queue.{Queue, entries}
 use Rattle.rules.specs.Sound.{freeSlots, usedSlots, Under}
 use Rattle.rules.proofs.Lists.{slots-put}
@@ -23,33 +26,15 @@ use Rattle.holds.specs.Chain.{ChainWords}
 use Rattle.holds.specs.Entries.{AllEntries}
 use Rattle.holds.specs.Free.{FreeStack, AllRetired}
 use Rattle.holds.specs.Holds.{HeaderWords, Unused, Words}
-use Rattle.holds.specs.inner.Writes.{Only}
 use Rattle.holds.proofs.Parts.{Separate, used-few, live-low, free-low, free-not-live, few-slots, room-of}
-use Rattle.holds.proofs.Writes.{only-room}
 use Rattle.holds.proofs.Groups.{unused-stays, tree-stays, chain-stays, entries-stay, stack-stays, all-retired-stay}
-use Rattle.holds.proofs.Reshaped.{IsRoot, header-stays}
+use Rattle.tree.specs.inner.Kept.{IsRoot}
+use Rattle.holds.proofs.Reshaped.{header-stays}
 use Rattle.holds.proofs.Trees.{LinkOf}
-use Rattle.taken.proofs.Kept.{TreeOnly}
+use Rattle.taken.proofs.Kept.{LinksOnly}
 use Rattle.holds.proofs.Chains.{end-last, chain-at}
 use Rattle.holds.proofs.Segments.{last-in-slots}
-use Rattle.holds.proofs.Linked.{joined-unlinks, chain-out}
-
--- the two words that close the chain over what stood between a and b
-abbrev pub ClosedAt : ℕ → ℕ → ℕ → ℕ → Type 0
-ClosedAt a b j g = ((j ≡ a) × (g ≡ NEXT)) ⊎ ((j ≡ b) × (g ≡ PREV))
-
-abbrev pub IsEnd : ℕ → Type 0
-IsEnd h = (h ≡ FIRST) ⊎ (h ≡ LAST)
-
-pub closed-only : (s : List ℕ) (cap a b : ℕ) → Only s (joined s cap a b) cap (ClosedAt a b) IsEnd
-closed-only s cap a b =
-    let o = joined-only s cap a b in
-    record {
-      long = o .long;
-      slots = λ j g hj hg n. joined-field s cap a b j g hj hg (λ e. n (inl e)) (λ e. n (inr e));
-      heads = λ h hh n. o .heads h hh (λ e. n (inl e)) (λ e. n (inr e));
-      rest = o .rest;
-    }
+use Rattle.holds.proofs.Linked.{JoinedAt, EndsAt, joined-unlinks, chain-out}
 
 -- a link of a live slot, of the tree or of the chain; the header's words that name ends
 abbrev pub LinkAt : List ℕ → ℕ → ℕ → Type 0
@@ -70,7 +55,7 @@ pub record Out (s u : List ℕ) (q : Queue) (l : List Entry) (x : Entry) (m : Li
   pub unused : Unused u
 
 module _ (s s1 : List ℕ) (q : Queue) (d : Separate q) (w : Words s q) (l : List Entry) (x : Entry) (m : List Entry) (old : entries q ≡ l ++ (x ∷ m)) (t : Tree)
-    (tree : TreeWords s1 (q .capacity) t) (o1 : TreeOnly s s1 (q .capacity) (slots (entries q))) where
+    (tree : TreeWords s1 (q .capacity) t) (o1 : LinksOnly s s1 (q .capacity) (slots (entries q))) where
   abbrev cap : ℕ
   cap = q .capacity
 
@@ -90,7 +75,7 @@ module _ (s s1 : List ℕ) (q : Queue) (d : Separate q) (w : Words s q) (l : Lis
   few = few-slots w
 
   room1 : Long s1 cap
-  room1 = only-room cap (LinkOf L) IsRoot s s1 o1 (room-of w)
+  room1 = only-room o1 (room-of w)
 
   low : All (Under cap) (slots (l ++ (x ∷ m)))
   low = rw old at (live-low d)
@@ -118,42 +103,27 @@ module _ (s s1 : List ℕ) (q : Queue) (d : Separate q) (w : Words s q) (l : Lis
   first-live [] j h e = let f = few in absurd (omega arith)
   first-live (e ∷ k) j h z = inl z
 
-  o2 : Only s1 u cap (ClosedAt a b) IsEnd
-  o2 = closed-only s1 cap a b
+  o2 : Only s1 u cap (JoinedAt a b) (EndsAt cap a b)
+  o2 = joined-unlinks s1 cap a b room1 .only
 
-  closed-live : (j g : ℕ) → j < cap → ClosedAt a b j g → LinkAt L j g
-  closed-live j g h (inl z) =
-      let k : g ≡ NEXT = z .1 in
-      (rw (old, slots-put l x m) (in-left j (slots l) (x .slot ∷ slots m) (last-live l j h (z .0))), omega arith, omega arith)
-  closed-live j g h (inr z) =
-      let k : g ≡ PREV = z .1 in
-      (rw (old, slots-put l x m) (in-right j (slots l) (x .slot ∷ slots m) (inr (first-live m j h (z .0)))), omega arith, omega arith)
-
-  end-named : (h : ℕ) → IsEnd h → NamesEnd h
-  end-named h (inl z) = (omega arith, omega arith)
-  end-named h (inr z) = (omega arith, omega arith)
+  joined-live : (j g : ℕ) → j < cap → JoinedAt a b j g → Dec (g ≡ PREV) → LinkAt L j g
+  joined-live j g h z (yes e) =
+      (rw (old, slots-put l x m) (in-right j (slots l) (x .slot ∷ slots m) (inr (first-live m j h (z .2 e)))), omega arith, omega arith)
+  joined-live j g h z (no n) =
+      let lo = z .0 in
+      let up = z .1 in
+      (rw (old, slots-put l x m) (in-left j (slots l) (x .slot ∷ slots m) (last-live l j h (z .3 (omega arith)))), omega arith, omega arith)
 
   o : Only s u cap (LinkAt L) NamesEnd
-  o = record {
-    long = o2 .long ∙ o1 .long;
-    slots = λ j g hj hg n. o2 .slots j g hj hg (λ z. n (closed-live j g hj z)) ∙ o1 .slots j g hj hg (λ z. let k = z .field-is in n (z .slot-in, omega arith, omega arith));
-    heads = λ h hh n. o2 .heads h hh (λ z. n (end-named h z)) ∙ o1 .heads h hh (λ z. n (omega arith, omega arith));
-    rest = λ k hk. o2 .rest k hk ∙ o1 .rest k hk;
-  }
-
-  not-closed : (j g : ℕ) → g ≤ BACK → ¬ (ClosedAt a b j g)
-  not-closed j g h (inl z) = let k : g ≡ NEXT = z .1 in omega arith
-  not-closed j g h (inr z) = let k : g ≡ PREV = z .1 in omega arith
-
-  not-end : ¬ (IsEnd ROOT)
-  not-end (inl z) = omega arith
-  not-end (inr z) = omega arith
+  o =
+      only-trans (only-weaken (λ j g hj z. let k = z .field-is in (z .slot-in, omega arith, omega arith)) (λ h z. omega arith) o1)
+      (only-weaken (λ j g hj z. joined-live j g hj z (ℕ-discrete g PREV)) (λ h z. omega arith) o2)
 
   pub unchained : Out s u q l x m t
   unchained = record {
     only = o;
     header = header-stays s u q (LinkAt L) NamesEnd o (λ h k z. let n = z .0 in omega arith) (w .header);
-    tree = tree-stays s1 u cap (ClosedAt a b) IsEnd o2 t not-end (λ j g h f. not-closed j g (f .to)) tree;
+    tree = tree-stays s1 u cap (JoinedAt a b) (EndsAt cap a b) o2 t (λ z. let k = z .1 in omega arith) (λ j g h f z. let k = z .0 in omega arith) tree;
     chain = chain-out s1 u cap l x m few once low (joined-unlinks s1 cap a b room1) chain1;
     live = rw old at (entries-stay s u cap (LinkAt L) NamesEnd o (entries q) (live-low d)
         (λ j h. ((λ z. let k = z .1 in omega arith), (λ z. let k = z .2 in omega arith), (λ z. let k = z .2 in omega arith))) (w .live));
