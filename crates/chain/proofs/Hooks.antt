@@ -21,9 +21,9 @@ module _ (s : List ℕ) (cap p q d : ℕ) (hd : d ≤ 1) where
   hooked-none h = rw (le-ltb p cap h)
 
   -- the one word that is written: p's neighbour away from d, or the end on side d where p is no slot
-  pub only-hooked : {W : ℕ → ℕ → Type 0} {H : ℕ → Type 0} → (p < cap → W p (NEXT - d)) → (cap ≤ p → H (FIRST + d)) → Only s (hooked s cap p q d) cap W H
+  pub hooked-only : {W : ℕ → ℕ → Type 0} {H : ℕ → Type 0} → (p < cap → W p (NEXT - d)) → (cap ≤ p → H (FIRST + d)) → Only s (hooked s cap p q d) cap W H
   unfolding hooked
-  only-hooked {W} {H} w h =
+  hooked-only {W} {H} w h =
       either (λ t. Only s t cap W H) _ _ _ (λ e. let l = ltb-true p cap e in only-put s p (NEXT - d) q l (omega arith) (w l))
       (λ e. only-putHead s (FIRST + d) q (omega arith) (h (ltb-false p cap e)))
 
@@ -33,11 +33,11 @@ module _ (s : List ℕ) (cap p q d : ℕ) (hd : d ≤ 1) where
 
   -- every other place
   pub hooked-field : (j f : ℕ) → j < cap → f < fields → ((j ≡ p) × (f ≡ NEXT - d) → ⊥) → field (hooked s cap p q d) cap j f ≡ field s cap j f
-  hooked-field j f hj hf ne = only-hooked {W = λ k g. (k ≡ p) × (g ≡ NEXT - d)} {H = AnyHead} (λ l. (refl, refl)) (λ l. tt) .slots j f hj hf ne
+  hooked-field j f hj hf ne = hooked-only {W = λ k g. (k ≡ p) × (g ≡ NEXT - d)} {H = AnyHead} (λ l. (refl, refl)) (λ l. tt) .slots j f hj hf ne
 
   -- the end on side d, where p is no slot
   pub hooked-end : Long s cap → cap ≤ p → head (hooked s cap p q d) (FIRST + d) ≡ q
   hooked-end room h = rw (hooked-none h) (head-same s (FIRST + d) q (omega arith) (omega arith))
 
   pub hooked-head : (h : ℕ) → h < headWords → (h ≡ FIRST + d → ⊥) → head (hooked s cap p q d) h ≡ head s h
-  hooked-head h hh ne = only-hooked {W = AnyField} {H = λ g. g ≡ FIRST + d} (λ l. tt) (λ l. refl) .heads h hh ne
+  hooked-head h hh ne = hooked-only {W = AnyField} {H = λ g. g ≡ FIRST + d} (λ l. tt) (λ l. refl) .heads h hh ne

@@ -10,7 +10,7 @@ use Rattle.arena.specs.inner.Only.{Only, AnyField, AnyHead}
 use Rattle.arena.proofs.Laws.{length-put, room-put, length-putHead, field-same, field-slot, field-off, head-same, head-other, field-putHead}
 use Rattle.arena.proofs.Only.{only-trans, only-room, only-put, only-putHead}
 use Rattle.chain.specs.inner.Links.{hooked, linkAlone, between, linkBeside, joined, neighbours, unlinkSlot}
-use Rattle.chain.proofs.Hooks.{only-hooked, hooked-at, hooked-field, hooked-end, hooked-head}
+use Rattle.chain.proofs.Hooks.{hooked-only, hooked-at, hooked-field, hooked-end, hooked-head}
 
 -- the model, once the neighbour has a name
 pub beside-is : (s : List ℕ) (cap i p d q : ℕ) → field s cap p (PREV + d) ≡ q → linkBeside s cap i p d ≡ between s cap i p q d
@@ -25,7 +25,7 @@ module _ (s : List ℕ) (cap i p q d : ℕ) (hi : i < cap) (hp : p < cap) (hd : 
   between-only own near far end =
       only-trans (only-put _ _ _ _ hi (omega arith) (own _ (omega arith) (omega arith)))
       (only-trans (only-put _ _ _ _ hi (omega arith) (own _ (omega arith) (omega arith)))
-      (only-trans (only-put _ _ _ _ hp (omega arith) near) (only-hooked _ _ _ _ _ hd far end)))
+      (only-trans (only-put _ _ _ _ hp (omega arith) near) (hooked-only _ _ _ _ _ hd far end)))
 
   -- i's own neighbours: q on side d, and p on the other
   pub between-near : Long s cap → (i ≡ p → ⊥) → field (between s cap i p q d) cap i (PREV + d) ≡ q
@@ -110,13 +110,13 @@ unlink-is s cap i p q e f = rw (e, f)
 
 module _ (s : List ℕ) (cap p q : ℕ) where
   room-hooked : Long s cap → Long (hooked s cap p q 0) cap
-  room-hooked room = only-room (only-hooked s cap p q 0 (omega arith) {W = AnyField} {H = AnyHead} (λ l. tt) (λ l. tt)) room
+  room-hooked room = only-room (hooked-only s cap p q 0 (omega arith) {W = AnyField} {H = AnyHead} (λ l. tt) (λ l. tt)) room
 
   -- what is written: p's next and q's prev, and the end on a side where there is no slot
   pub joined-only : {W : ℕ → ℕ → Type 0} {H : ℕ → Type 0} → (p < cap → W p NEXT) → (q < cap → W q PREV) → (cap ≤ p → H FIRST) → (cap ≤ q → H LAST)
       → Only s (joined s cap p q) cap W H
   unfolding joined
-  joined-only a b f l = only-trans (only-hooked _ _ _ _ 0 (omega arith) a f) (only-hooked _ _ _ _ 1 (omega arith) b l)
+  joined-only a b f l = only-trans (hooked-only _ _ _ _ 0 (omega arith) a f) (hooked-only _ _ _ _ 1 (omega arith) b l)
 
   -- p's next is q and q's prev is p; where one of them is no slot, the end on its side is the other
   pub joined-next : Long s cap → p < cap → field (joined s cap p q) cap p NEXT ≡ q
