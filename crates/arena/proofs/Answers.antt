@@ -14,7 +14,8 @@ use Rattle.arena.specs.Keys.{signed}
 use Rattle.handle.specs.Numbers.{limit, topLimit}
 use Rattle.handle.proofs.Limits.{limit-fits}
 use Rattle.arena.specs.Words.{headWords, need, Room, field, put, head, putHead, KEY, RANK, GENERATION, VALUE, STACK, CAPACITY, TOP, HEIGHT}
-use Rattle.arena.specs.Header.{headerOf, Passing, Says}
+use Rattle.arena.specs.Header.{headerOf, Passing}
+use Rattle.arena.specs.inner.Says.{Says}
 use Rattle.arena.specs.Laying.{Good}
 use Rattle.arena.specs.inner.Laying.{blankOf, goodLayout, freshHead, laySlots, laid, layOut}
 use Rattle.arena.specs.inner.Slots.{FoundIn, handleOf, foundAt, peekFrom, peekSlot, popped, takeSlot, pushed, freeWith, freeSlot}

@@ -25,8 +25,3 @@ pub record Passing (s : List ℕ) (cap : ℕ) : Type 0 where
   pub some : 1 ≤ cap
   pub few : cap ≤ limit
   pub room : Room s cap
-
--- what a caller may rely on after the test
-abbrev pub Says : List ℕ → Header → Type 0
-Says s (Passes cap) = Passing s cap
-Says s Fails = Unit {0}

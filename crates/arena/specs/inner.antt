@@ -4,3 +4,4 @@ pub mod Only
 pub mod Laying
 pub mod Slots
 pub mod Entries
+pub mod Says

@@ -1,6 +1,7 @@
 // The header test, exactly as document 01 has it under number 5. Every call on a store but laying out and check begins with it.
 ghost use mathlib.Core.Path.{_≡_};
-ghost use Rattle.arena.specs.Header.{headerOf, Says};
+ghost use Rattle.arena.specs.Header.{headerOf};
+ghost use Rattle.arena.specs.inner.Says.{Says};
 use crate::words;
 use crate::words::CAPACITY;
 use crate::words::FIELDS;

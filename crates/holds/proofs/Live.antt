@@ -22,7 +22,8 @@ use Rattle.rules.specs.Queue.{Queue, entries, Names, Live}
 use Rattle.rules.specs.Place.{Spot, nowhere, spot, spotOf}
 use Rattle.rules.proofs.Places.{SpotIs, spot-is}
 use Rattle.rules.proofs.Removing.{live-once}
-use Rattle.holds.specs.Handles.{plain, isSpot}
+use Rattle.holds.specs.Handles.{plain}
+use Rattle.holds.specs.inner.Meanings.{isSpot}
 use Rattle.holds.specs.Entries.{EntryWords}
 use Rattle.holds.specs.Holds.{Holds}
 use Rattle.holds.proofs.Parts.{sound-of, words-of}

@@ -18,7 +18,8 @@ use Rattle.wavl.proofs.Lists.{all-left, all-right, pairwise-across}
 use Rattle.wavl.proofs.Size.{size-length, rank-le-31}
 use Rattle.rules.specs.Queue.{Queue, entries}
 use Rattle.rules.specs.Sound.{freeSlots, usedSlots, Under, Sound}
-use Rattle.holds.specs.Holds.{Holds, Words}
+use Rattle.holds.specs.Holds.{Holds}
+use Rattle.holds.specs.inner.Words.{Words}
 use Rattle.holds.proofs.Counting.{at-most, length-slots, length-freeSlots}
 
 pub sound-of : {s : List ℕ} {q : Queue} → Holds s q → Sound q

@@ -14,7 +14,8 @@ use Rattle.wavl.proofs.Lists.{in-left}
 use Rattle.rules.specs.Queue.{Queue, entries, changed}
 use Rattle.rules.specs.Sound.{freeSlots, usedSlots}
 use Rattle.holds.specs.Links.{TreeWords}
-use Rattle.holds.specs.Holds.{HeaderWords, Words}
+use Rattle.holds.specs.Holds.{HeaderWords}
+use Rattle.holds.specs.inner.Words.{Words}
 use Rattle.holds.proofs.Parts.{Separate, used-few, live-low, free-low, free-not-live}
 use Rattle.holds.proofs.Trees.{LinkOf}
 use Rattle.holds.proofs.Groups.{passing-stays, unused-stays, chain-stays, entries-stay, stack-stays, all-retired-stay}

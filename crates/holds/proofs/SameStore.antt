@@ -20,7 +20,8 @@ use Rattle.holds.specs.Links.{Links}
 use Rattle.holds.specs.Chain.{Chain}
 use Rattle.holds.specs.Entries.{EntryWords}
 use Rattle.holds.specs.Free.{Blank, FreeWords}
-use Rattle.holds.specs.Holds.{Holds, Words}
+use Rattle.holds.specs.Holds.{Holds}
+use Rattle.holds.specs.inner.Words.{Words}
 use Rattle.holds.proofs.Has.{Has, dec-in, has-cases}
 use Rattle.holds.proofs.Parts.{words-of}
 use Rattle.holds.proofs.States.{slot-entry}

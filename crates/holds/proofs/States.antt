@@ -17,7 +17,7 @@ use Rattle.rules.specs.Queue.{Handle, Queue, entries}
 use Rattle.rules.specs.Sound.{freeSlots, usedSlots}
 use Rattle.holds.specs.Links.{Links}
 use Rattle.holds.specs.Free.{FreeAt, FreeWords, Retired}
-use Rattle.holds.specs.Holds.{Words}
+use Rattle.holds.specs.inner.Words.{Words}
 use Rattle.holds.proofs.Has.{dec-in}
 
 -- the entry of a slot

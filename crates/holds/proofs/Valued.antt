@@ -23,7 +23,7 @@ use Rattle.rules.proofs.Places.{smallerOf, greaterOf, entries-around}
 use Rattle.holds.specs.Ends.{firstSlot, lastSlot}
 use Rattle.holds.specs.Chain.{Chain, ChainWords}
 use Rattle.holds.specs.Entries.{EntryWords, AllEntries}
-use Rattle.holds.specs.Holds.{Words}
+use Rattle.holds.specs.inner.Words.{Words}
 use Rattle.holds.proofs.Parts.{Separate, used-few, live-low, free-low, free-not-live, room-of}
 use Rattle.holds.proofs.Ways.{unplugged, plugged}
 use Rattle.holds.proofs.Groups.{tree-stays, chain-stays, entries-stay, stack-stays, all-retired-stay, unused-stays}

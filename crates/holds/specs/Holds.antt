@@ -55,13 +55,3 @@ pub record Holds (s : List ℕ) (q : Queue) : Type 0 where
 -- "A store is sound"
 abbrev pub SoundStore : List ℕ → Type 0
 SoundStore s = (q : Queue) × Holds s q
-
--- the parts of Holds that speak of words, for a queue that is known to be sound: each speaks of fields of its own
-pub record Words (s : List ℕ) (q : Queue) : Type 0 where
-  pub header : HeaderWords s q
-  pub tree : TreeWords s (q .capacity) (q .tree)
-  pub chain : ChainWords s (q .capacity) (entries q)
-  pub live : AllEntries s (q .capacity) (entries q)
-  pub free : FreeStack s (q .capacity) (q .free)
-  pub retired : AllRetired s (q .capacity) (q .top) (usedSlots q)
-  pub unused : Unused s

@@ -28,7 +28,7 @@ use Rattle.rules.specs.Insert.{addWith}
 use Rattle.rules.specs.Sound.{Sound, freeSlots}
 use Rattle.wavl.specs.Lists.{Differ}
 use Rattle.holds.specs.Ends.{number}
-use Rattle.holds.specs.Holds.{Words}
+use Rattle.holds.specs.inner.Words.{Words}
 use Rattle.holds.proofs.Parts.{Separate, separate-of, size-few, few-slots}
 use Rattle.holds.proofs.Ways.{unplugged}
 use Rattle.holds.proofs.Reshaped.{reshaped}

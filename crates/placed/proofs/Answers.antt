@@ -6,7 +6,7 @@ use Prim.Native.Nat.{ℕ}
 use Rattle.insert.specs.declared.place.Inserted as I
 use Rattle.rules.specs.Queue.{Queue}
 use Rattle.rules.specs.Answers.{Inserted}
-use Rattle.holds.specs.Holds.{Words}
+use Rattle.holds.specs.inner.Words.{Words}
 use Rattle.placed.specs.Meaning.{insertedMeans}
 
 -- the answer is the definition's, and the store afterwards has the words of the definition's queue

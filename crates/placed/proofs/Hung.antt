@@ -31,7 +31,8 @@ use Rattle.holds.specs.inner.Ways.{parent, sideIn}
 use Rattle.holds.specs.Chain.{ChainWords}
 use Rattle.holds.specs.Entries.{EntryWords, AllEntries}
 use Rattle.holds.specs.Free.{FreeStack, AllRetired}
-use Rattle.holds.specs.Holds.{HeaderWords, Words, Unused}
+use Rattle.holds.specs.Holds.{HeaderWords, Unused}
+use Rattle.holds.specs.inner.Words.{Words}
 use Rattle.holds.proofs.Has.{Has, Distinct, has-cases}
 use Rattle.holds.proofs.Trees.{SameLinks, node-keep, number-small}
 use Rattle.holds.proofs.Ways.{HasWay, has-way}

@@ -28,7 +28,8 @@ use Rattle.rules.specs.Insert.{keyed, Beside, decBeside, Between, decBetween, a
 use Rattle.rules.proofs.Places.{SpotIs, spot-is}
 use Rattle.rules.proofs.Removing.{live-once}
 use Rattle.holds.specs.Ends.{topSlot, number}
-use Rattle.holds.specs.Handles.{plain, isSpot}
+use Rattle.holds.specs.Handles.{plain}
+use Rattle.holds.specs.inner.Meanings.{isSpot}
 use Rattle.holds.specs.Links.{Links}
 use Rattle.holds.specs.Entries.{EntryWords}
 use Rattle.holds.specs.Holds.{Holds}

@@ -26,7 +26,8 @@ use Rattle.holds.specs.Holds.{Holds}
 use Rattle.holds.proofs.Parts.{sound-of, words-of, separate-of, used-few, free-low}
 use Rattle.holds.proofs.Live.{live-entry, spot-in}
 use Rattle.holds.proofs.Stack.{peek-none, peek-first}
-use Rattle.placed.specs.Meaning.{aheadMeans, Inserts}
+use Rattle.placed.specs.Meaning.{aheadMeans}
+use Rattle.placed.specs.inner.Inserts.{Inserts}
 use Rattle.placed.proofs.Answers.{Answers}
 use Rattle.placed.proofs.Added.{adds}
 use Rattle.placed.proofs.Swapped.{inserts, refuses, swaps}

@@ -19,7 +19,7 @@ use Rattle.holds.specs.Holds.{Holds}
 use Rattle.holds.proofs.Parts.{sound-of, words-of, holds-of, separate-of}
 use Rattle.holds.proofs.Live.{live-entry, spot-in}
 use Rattle.holds.proofs.Valued.{new-value}
-use Rattle.placed.specs.Meaning.{Inserts}
+use Rattle.placed.specs.inner.Inserts.{Inserts}
 use Rattle.placed.proofs.Answers.{Answers}
 
 -- a sound queue's words make a store that holds it

@@ -19,7 +19,8 @@ use Rattle.rules.proofs.Insertions.{insert-sound}
 use Rattle.holds.specs.Handles.{plain}
 use Rattle.holds.specs.Holds.{Holds}
 use Rattle.holds.proofs.Parts.{sound-of}
-use Rattle.placed.specs.Meaning.{aheadMeans, sideMeans, Inserts}
+use Rattle.placed.specs.Meaning.{aheadMeans, sideMeans}
+use Rattle.placed.specs.inner.Inserts.{Inserts}
 use Rattle.placed.proofs.Plans.{carries-out, foretells}
 use Rattle.placed.proofs.Preparing.{normal-prepares, empty-prepares}
 use Rattle.placed.proofs.Manual.{manual-prepares}

@@ -4,7 +4,7 @@ use Prim.Native.Nat.{ℕ, _≤_}
 use mathlib.Core.Path.{_≡_, refl, _∙_, ap, subst⁻¹}
 use mathlib.Core.List.{List}
 use lib.ListN.{length, getD}
-use Rattle.arena.specs.Words.{need}
+use Rattle.arena.specs.inner.Only.{Only, AnyField, AnyHead}
 use Rattle.arena.specs.Header.{headerOf, Passing}
 use Rattle.arena.specs.declared.header.Header.{Header}
 use Rattle.arena.specs.declared.header.Header.the-variants.{Passes, Fails}
@@ -15,10 +15,9 @@ use Rattle.queue.specs.inner.Header.{onHeader}
 use Rattle.queue.specs.Promises.{Writes, Looks}
 use Rattle.queue.proofs.Looked.{on-held}
 
--- what a model keeps of the store
-pub record Keeps (s t : List ℕ) (cap : ℕ) : Type 0 where
-  pub long : length t ≡ length s
-  pub rest : (k : ℕ) → need cap ≤ k → getD t k 0 ≡ getD s k 0
+-- what a model keeps of the store: the length, and what lies past the needed words
+abbrev pub Keeps : List ℕ → List ℕ → ℕ → Type 0
+Keeps s t cap = Only s t cap AnyField AnyHead
 
 module _ {A B : Type 0} (five : A) (s : List ℕ) (f : ℕ → List ℕ × A) (reads : A → B) (rule : Queue → B × Queue) (keeps : (cap : ℕ) → Passing s cap → Keeps s (f cap .0) cap) (means : (q : Queue) → Holds s q → (reads (f (q .capacity) .1) ≡ rule q .0) × Holds (f (q .capacity) .0) (rule q .1)) where
   call-long : (h : Header) → headerOf s ≡ h → length (onHeader h f (s, five) .0) ≡ length s

@@ -21,7 +21,8 @@ use Rattle.rules.specs.Place.{Spot, nowhere, spot, spotOf}
 use Rattle.rules.specs.Answers.{Found}
 use Rattle.rules.specs.Look.{searchFor, first, last, standSpot, standAt, stepSpot, stepTo}
 use Rattle.holds.specs.Ends.{number}
-use Rattle.holds.specs.Handles.{plain, isSpot}
+use Rattle.holds.specs.Handles.{plain}
+use Rattle.holds.specs.inner.Meanings.{isSpot}
 use Rattle.holds.specs.Holds.{Holds}
 use Rattle.holds.specs.inner.Meanings.{inSlots, foundMeans, stepMeans}
 use Rattle.holds.proofs.Seeks.{seek-is, seek-means}

@@ -18,7 +18,8 @@ use Rattle.arena.specs.declared.laying.LaidOut.{LaidOut}
 use Rattle.arena.specs.declared.laying.LaidOut.the-variants as L
 use Rattle.arena.proofs.Theorems.{laid-is, lays-out, refuses}
 use Rattle.chain.specs.inner.Steps.{endOf}
-use Rattle.insert.specs.inner.Kept.{Within}
+use Rattle.arena.specs.inner.Only.{Only}
+use Rattle.arena.proofs.Only.{only-weaken}
 use Rattle.insert.specs.inner.Place as I
 use Rattle.insert.specs.inner.Ahead as A
 use Rattle.insert.specs.declared.place.Inserted.{Inserted}
@@ -91,8 +92,8 @@ module _ (s : List ℕ) where
       looks _ s (λ cap. A.aheadManual s cap h side key) _ _ r e (λ q k. rw (on-held k (λ cap. A.aheadManual s cap h side key) _) (manual-ahead k key h side))
 
 -- calls that write
-kept : {s t : List ℕ} {cap : ℕ} → Within s t cap → Keeps s t cap
-kept w = record { long = w .long; rest = w .rest }
+kept : {s t : List ℕ} {cap : ℕ} {W : ℕ → ℕ → Type 0} {H : ℕ → Type 0} → Only s t cap W H → Keeps s t cap
+kept o = only-weaken (λ j g hj w. tt) (λ h w. tt) o
 
 module _ (s t : List ℕ) (r : Inserted) (key : ℤ) (value : ℕ) where
   pub insert-writes : (t, r) ≡ insertCall s key value → InsertPromise s t key value r
@@ -116,7 +117,7 @@ module _ (s t : List ℕ) (r : Inserted) (key : ℤ) (value : ℕ) where
 pub remove-writes : (s t : List ℕ) (r : Removed) (h : Handle) → (t, r) ≡ removeCall s h → RemovePromise s t h r
 unfolding removeCall
 remove-writes s t r h e =
-    writes _ s (λ cap. removeBy s cap h) _ _ (λ cap p. let k = remove-kept s cap h in record { long = k .long; rest = k .rest })
+    writes _ s (λ cap. removeBy s cap h) _ _ (λ cap p. kept (remove-kept s cap h))
     (λ q k. let m = remove-means k h in (m .answer, m .holds)) t r e
 
 -- laying out: the store's good layouts are document 01's

@@ -32,11 +32,13 @@ use Rattle.rules.proofs.Lists.{all-at}
 use Rattle.rules.proofs.Places.{smallerOf, greaterOf, entries-around, SpotIs, spot-is}
 use Rattle.rules.proofs.Removing.{live-once, remove-sound}
 use Rattle.holds.specs.Ends.{firstSlot, lastSlot}
-use Rattle.holds.specs.Handles.{plain, isSpot}
+use Rattle.holds.specs.Handles.{plain}
+use Rattle.holds.specs.inner.Meanings.{isSpot}
 use Rattle.holds.specs.Holds.{Holds}
 use Rattle.holds.proofs.Parts.{sound-of, words-of, holds-of, few-slots, room-of, separate-of, size-few, under-budget}
 use Rattle.holds.proofs.Live.{live-is, spot-in, entry-at}
-use Rattle.taken.specs.Meaning.{removedMeans, readMeans, Removes}
+use Rattle.taken.specs.Meaning.{removedMeans, readMeans}
+use Rattle.taken.specs.inner.Removes.{Removes}
 use Rattle.holds.proofs.AnyDepth.{Came}
 use Rattle.taken.proofs.TakesOut.{Taking, takes-out}
 use Rattle.taken.proofs.Unchained.{Out, unlinks, unchained}

@@ -26,7 +26,8 @@ use Rattle.holds.specs.Links.{TreeWords}
 use Rattle.holds.specs.Chain.{ChainWords}
 use Rattle.holds.specs.Entries.{EntryWords, AllEntries}
 use Rattle.holds.specs.Free.{Retired}
-use Rattle.holds.specs.Holds.{HeaderWords, Unused, Words}
+use Rattle.holds.specs.Holds.{HeaderWords, Unused}
+use Rattle.holds.specs.inner.Words.{Words}
 use Rattle.holds.proofs.Parts.{Separate, used-few, live-low, free-low, free-not-live}
 use Rattle.holds.proofs.Groups.{unused-stays, tree-stays, chain-stays, entries-stay, stack-stays, retired-stays}
 use Rattle.holds.proofs.Reshaped.{header-stays}

@@ -25,7 +25,8 @@ use Rattle.holds.specs.Links.{TreeWords}
 use Rattle.holds.specs.Chain.{ChainWords}
 use Rattle.holds.specs.Entries.{AllEntries}
 use Rattle.holds.specs.Free.{FreeStack, AllRetired}
-use Rattle.holds.specs.Holds.{HeaderWords, Unused, Words}
+use Rattle.holds.specs.Holds.{HeaderWords, Unused}
+use Rattle.holds.specs.inner.Words.{Words}
 use Rattle.holds.proofs.Parts.{Separate, used-few, live-low, free-low, free-not-live, few-slots, room-of}
 use Rattle.holds.proofs.Groups.{unused-stays, tree-stays, chain-stays, entries-stay, stack-stays, all-retired-stay}
 use Rattle.tree.specs.inner.Kept.{IsRoot}

@@ -2,12 +2,14 @@
 -- Document 01: "Search as a call answers the equal entry's handle, or the last node's handle and the side, or Empty, each with the
 -- count"; "at an end the answer is End". Refusal 5 is never met on a sound store.
 use Prim.Native.Nat.{ℕ, zero, suc}
+use mathlib.Core.Bool.{Bool, true, false}
 use mathlib.Core.List.{List}
 use Rattle.arena.specs.Words.{field, GENERATION}
 use Rattle.find.specs.declared.Found as F
 use Rattle.chain.specs.declared.Stepped as C
 use Rattle.wavl.specs.Search as Search
 use Rattle.rules.specs.Queue.{Handle, handle}
+use Rattle.rules.specs.Place.{Spot, nowhere, spot}
 use Rattle.rules.specs.Answers.{Where, less, greater, Found, equalAt, beside, noEntry, notFound, Stepped, stands, ends, notStepped, notSound}
 use Rattle.holds.specs.Ends.{number}
 use Rattle.holds.specs.Handles.{plain}
@@ -37,3 +39,8 @@ abbrev pub stepMeans : C.Stepped → Stepped
 stepMeans (C.the-variants.At h) = stands (plain h)
 stepMeans C.the-variants.End = ends
 stepMeans C.the-variants.NotSound = notStepped notSound
+
+-- whether a handle's place is one
+abbrev pub isSpot : Spot → Bool
+isSpot nowhere = false
+isSpot (spot a x r b p) = true
