@@ -32,17 +32,24 @@ fn strike(s: &mut [u64], k: i64, value: u64) {
     };
 }
 
+// Words for one slot more than the limit, so that it is the limit that refuses it.
+const WIDE: usize = STORE + FIELDS as usize;
+
+fn run(s: &mut [u64; WIDE]) {
+    lay(s, 0, 3);
+    lay(s, LIMIT + 1, 3);
+    lay(s, 1, 3);
+    lay(s, LIMIT, 3);
+    lay(s, 8, 0);
+    lay(s, 8, 3);
+    strike(s, 10, 1);
+    strike(s, 20, 2);
+    strike(s, 30, 3);
+    listing::print(s);
+}
+
+// A large array is lent whole: where `main` makes a slice of it, the prover counts it out.
 fn main() {
-    // Large enough for one slot more than the limit, so that it is the limit that refuses it.
-    let mut s = [0u64; STORE + FIELDS as usize];
-    lay(&mut s, 0, 3);
-    lay(&mut s, LIMIT + 1, 3);
-    lay(&mut s, 1, 3);
-    lay(&mut s, LIMIT, 3);
-    lay(&mut s, 8, 0);
-    lay(&mut s, 8, 3);
-    strike(&mut s, 10, 1);
-    strike(&mut s, 20, 2);
-    strike(&mut s, 30, 3);
-    listing::print(&s);
+    let mut s = [0u64; WIDE];
+    run(&mut s);
 }

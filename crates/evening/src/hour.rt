@@ -29,13 +29,19 @@ pub struct Planned {
     pub half: Handle,
 }
 
-// One slot more than the limit is tried on a store that would be long enough, so that it is the limit that refuses it.
+// Words for one slot more than the limit, so that it is the limit that refuses it.
+const WIDE: usize = STORE + FIELDS as usize;
+
+fn lay_wide(s: &mut [u64; WIDE]) {
+    lay(s, LIMIT + 1, 9);
+}
+
 pub fn lay_out(s: &mut Store) {
-    let mut wide = [0u64; STORE + FIELDS as usize];
+    let mut wide = [0u64; WIDE];
     say::text(b"A queue is laid out. Before that no strike can be planned.\n");
     plan(s, SIX, 6);
     lay(s, 0, 9);
-    lay(&mut wide, LIMIT + 1, 9);
+    lay_wide(&mut wide);
     lay(s, 6, 9);
     lay(s, 5, 9);
 }

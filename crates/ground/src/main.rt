@@ -119,20 +119,35 @@ fn last_first(s: &mut [u64]) {
     free_one(s, 3);
 }
 
+// Words for one slot more than the limit, so that it is the limit that refuses it.
+const WIDE: usize = STORE + FIELDS as usize;
+
+// One word is wanting for the most slots.
+fn lay_short(s: &mut [u64]) {
+    let end = STORE - 1;
+    if end <= s.len() {
+        lay(&mut s[..end], LIMIT, 3);
+    }
+}
+
+// What laying out refuses, and the most slots taken to the last.
+fn most_slots(s: &mut [u64; WIDE]) {
+    lay(s, 0, 3);
+    lay(s, LIMIT + 1, 3);
+    lay(s, LIMIT, 0);
+    lay(s, LIMIT, TOP_LIMIT + 1);
+    lay_short(s);
+    take_one(s);
+    lay(s, LIMIT, 3);
+    take_all(s, 2 * LIMIT);
+    take_one(s);
+}
+
+// A large array is lent whole: where `main` makes a slice of it, the prover counts it out.
 fn main() {
-    // Large enough for one slot more than the limit, so that it is the limit that refuses it.
-    let mut large = [7u64; STORE + FIELDS as usize];
-    let mut short = [7u64; STORE - 1];
+    let mut large = [7u64; WIDE];
     let mut small = [7u64; 64];
-    lay(&mut large, 0, 3);
-    lay(&mut large, LIMIT + 1, 3);
-    lay(&mut large, LIMIT, 0);
-    lay(&mut large, LIMIT, TOP_LIMIT + 1);
-    lay(&mut short, LIMIT, 3);
-    take_one(&mut large);
-    lay(&mut large, LIMIT, 3);
-    take_all(&mut large, 2 * LIMIT);
-    take_one(&mut large);
+    most_slots(&mut large);
     two_lives(&mut small);
     last_first(&mut small);
 }
