@@ -9,7 +9,6 @@ use lib.ListN.{length}
 use Rattle.handle.specs.declared.Handle as H
 use Rattle.handle.specs.declared.Side as D
 use Rattle.arena.specs.Keys.{signed}
-use Rattle.arena.specs.inner.Slots.{handleOf}
 use Rattle.arena.specs.inner.Laying.{layOut}
 use Rattle.insert.specs.declared.place.Inserted as I
 use Rattle.insert.specs.declared.ahead.Ahead as A
@@ -29,7 +28,7 @@ use Rattle.sound.specs.inner.Check.{soundModel}
 
 -- a handle and a side of the history as the caller holds them
 abbrev pub held : Handle → H.Handle
-held h = handleOf (h .slot) (h .generation)
+held h = record { slot = record { 0 = h .slot }; generation = record { 0 = h .generation } }
 
 abbrev pub sideOf : Where → D.Side
 sideOf less = D.the-variants.Less
