@@ -293,10 +293,8 @@ module _ (s : List ℕ) (cap : ℕ) (few : cap ≤ noSlot) (l : List ℕ) (d : S
 pub climbs : (cap : ℕ) → cap ≤ noSlot → (l : List ℕ) (p : Way) (fuel : ℕ) (s : List ℕ) (n0 : Tree) → length p ≤ fuel → Climbing s cap l n0 p
     → Came s cap l (removeClimb n0 p) (climbUp p fuel s cap)
 unfolding plug
-climbs cap few l [] fuel s n0 h c = root
-  where
-    root : Came s cap l (removeClimb n0 []) (s, true)
-    root = rw (remove-root n0) (record { yes = refl; words = c .words; only = only-none })
+climbs cap few l [] fuel s n0 h c =
+    let root : Came s cap l (removeClimb n0 []) (s, true) = rw (remove-root n0) (record { yes = refl; words = c .words; only = only-none }) in root
 climbs cap few l (step d e1 r1 s0 ∷ q) zero s n0 h c = absurd (omega arith)
 climbs cap few l (step d e1 r1 s0 ∷ q) (suc fuel) s n0 h c =
     turned s cap few l d n0 e1 r1 s0 q fuel c (λ t x k. climbs cap few l q fuel t x (omega arith) k)

@@ -23,6 +23,7 @@ returns c = search needs
 
 returns-2 : tie.Need-returns-2
 returns-2 c = search needs
+
 pub lay-short-spec : {M : Type 1} → statement M
 lay-short-spec =
     tie.close
