@@ -1,5 +1,5 @@
 // What a command is answered with, as plain data, and how it is written: one line each.
-use arena::entries::Entry;
+use handle::Entry;
 use handle::Refusal;
 use handle::Side;
 use output::out;

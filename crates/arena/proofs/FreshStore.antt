@@ -10,7 +10,7 @@ use Rattle.arena.specs.Words.{Long, headWords, fields, field, head, putH
 use Rattle.arena.specs.inner.Only.{Only, NoField, NoHead}
 use Rattle.arena.specs.Laying.{slotWords}
 use Rattle.arena.specs.inner.Laying.{unlinked, blankOf, freshSlot, laySlots, zeroed}
-use Rattle.arena.proofs.Laws.{lit≢, length-put, length-putHead, field-at, field-off, head-same}
+use Rattle.arena.proofs.WordLaws.{lit≢, length-put, length-putHead, field-at, field-off, head-same}
 use Rattle.arena.proofs.Only.{only-none, only-trans, only-room, only-put, only-putHead, only-weaken, only-blank}
 
 -- a statement about each field

@@ -3,10 +3,10 @@ pub mod Paths
 pub mod Places
 pub mod KeyWords
 pub mod KeyLaws
-pub mod Laws
+pub mod WordLaws
 pub mod Only
 pub mod OneStore
-pub mod Turns
-pub mod Answers
+pub mod LayingTurns
+pub mod SlotReads
 pub mod FreshStore
 pub mod Theorems

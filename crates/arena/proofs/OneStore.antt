@@ -6,17 +6,17 @@ use native.Mathlib.Omega.{arith}
 use native.Mathlib.Decide.{decLt}
 use lib.ListN.{getD}
 use lib.Seq.{ext-getD}
-use Rattle.arena.specs.Words.{need, headWords, fields, place, field, head}
+use Rattle.arena.specs.Words.{need, headWords, fields, wordAt, field, head}
 use Rattle.arena.specs.inner.Only.{Only, NoField, NoHead}
 use Rattle.arena.proofs.Places.{place-near, place-far}
 
--- the slot and the field whose place is k
+-- the slot and the field whose wordAt is k
 record Named (cap k : ℕ) : Type 0 where
   slot : ℕ
   which : ℕ
   low : slot < cap
   small : which < fields
-  is : place cap slot which ≡ k
+  is : wordAt cap slot which ≡ k
 
 named : (cap k : ℕ) → headWords ≤ k → k < need cap → Named cap k
 named cap k lo hi = go (decLt k (headWords + cap * 4))

@@ -10,7 +10,7 @@ use Rattle.arena.specs.Words.{Long, headWords, fields, put, putHead, KEY
 use Rattle.arena.specs.inner.Laying.{unlinked, blankOf}
 use Rattle.arena.specs.inner.Only.{Only}
 use Rattle.arena.specs.inner.Slots.{popped, pushed}
-use Rattle.arena.proofs.Laws.{length-put, length-putHead, field-other, head-put, rest-put, head-other, field-putHead, rest-putHead}
+use Rattle.arena.proofs.WordLaws.{length-put, length-putHead, field-other, head-put, rest-put, head-other, field-putHead, rest-putHead}
 
 module _ {cap : ℕ} {W : ℕ → ℕ → Type 0} {H : ℕ → Type 0} where
   pub only-none : {s : List ℕ} → Only s s cap W H

@@ -1,17 +1,17 @@
--- Where each field stands, and that no two fields stand at one place.
+-- Where each field stands, and that no two fields stand at one wordAt.
 use Prim.Native.Nat.{ℕ, _+_, _-_, _*_, _≤_, _<_}
 use mathlib.Core.Path.{_≡_, sym, _∙_}
 use native.Mathlib.Omega.{arith}
 use native.Mathlib.Decide.{decLt}
 use borrow.Author.Tests.{lt-ltb, le-ltb}
-use Rattle.arena.specs.Words.{headWords, place, need, fields}
+use Rattle.arena.specs.Words.{headWords, wordAt, need, fields}
 
-pub place-near : (cap i f : ℕ) → f < 4 → place cap i f ≡ headWords + i * 4 + f
-unfolding place
+pub place-near : (cap i f : ℕ) → f < 4 → wordAt cap i f ≡ headWords + i * 4 + f
+unfolding wordAt
 place-near cap i f h = rw (lt-ltb f 4 h)
 
-pub place-far : (cap i f : ℕ) → 4 ≤ f → place cap i f ≡ headWords + cap * 4 + i * 6 + (f - 4)
-unfolding place
+pub place-far : (cap i f : ℕ) → 4 ≤ f → wordAt cap i f ≡ headWords + cap * 4 + i * 6 + (f - 4)
+unfolding wordAt
 place-far cap i f h = rw (le-ltb f 4 h)
 
 -- a field stands behind the header and within what the capacity needs
@@ -19,14 +19,14 @@ pub record Within (cap p : ℕ) : Type 0 where
   pub low : headWords ≤ p
   pub high : p < need cap
 
-pub place-within : (cap i f : ℕ) → i < cap → f < fields → Within cap (place cap i f)
+pub place-within : (cap i f : ℕ) → i < cap → f < fields → Within cap (wordAt cap i f)
 place-within cap i f hi hf = go (decLt f 4)
   where
-    go : Dec (f < 4) → Within cap (place cap i f)
+    go : Dec (f < 4) → Within cap (wordAt cap i f)
     go (yes h) = rw (place-near cap i f h) (record { low = omega arith; high = omega arith })
     go (no h) = let h′ : 4 ≤ f = omega arith in rw (place-far cap i f h′) (record { low = omega arith; high = omega arith })
 
-pub place-one : (cap i f j g : ℕ) → i < cap → j < cap → f < fields → g < fields → place cap i f ≡ place cap j g → (i ≡ j) × (f ≡ g)
+pub place-one : (cap i f j g : ℕ) → i < cap → j < cap → f < fields → g < fields → wordAt cap i f ≡ wordAt cap j g → (i ≡ j) × (f ≡ g)
 place-one cap i f j g hi hj hf hg e = go (decLt f 4) (decLt g 4)
   where
     go : Dec (f < 4) → Dec (g < 4) → (i ≡ j) × (f ≡ g)

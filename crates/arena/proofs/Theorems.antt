@@ -13,15 +13,15 @@ use Rattle.handle.specs.Numbers.{limit}
 use Rattle.handle.proofs.Limits.{limit-fits}
 use Rattle.arena.specs.Words.{need, Long, headWords, head, CAPACITY}
 use Rattle.arena.specs.Header.{headerOf, Passing}
-use Rattle.arena.specs.Laying.{Good, headerWords, Fresh}
-use Rattle.arena.specs.inner.Laying.{zeroed, freshHead, laid, layOut, goodLayout}
+use Rattle.arena.specs.Laying.{GoodLayout, headerWords, Fresh}
+use Rattle.arena.specs.inner.Laying.{zeroed, freshHead, laidWords, layOutWords, goodLayout}
 use Rattle.arena.specs.declared.header.Header.{Header}
 use Rattle.arena.specs.declared.header.Header.the-variants.{Passes, Fails}
-use Rattle.arena.specs.declared.laying.LaidOut.the-variants.{Done, Refused}
-use Rattle.arena.proofs.Laws.{lit≢, length-putHead, head-at, head-other, rest-putHead}
+use Rattle.handle.specs.declared.LaidOut.the-variants.{Done, Refused}
+use Rattle.arena.proofs.WordLaws.{lit≢, length-putHead, head-at, head-other, rest-putHead}
 use Rattle.arena.proofs.OneStore.{one-store}
 use Rattle.arena.proofs.FreshStore.{lay-slots, zero-words}
-use Rattle.arena.proofs.Answers.{good-yes, good-is, lay-refused, header-passes}
+use Rattle.arena.proofs.SlotReads.{good-yes, good-is, lay-refused, header-passes}
 
 module _ (s : List ℕ) (cap top : ℕ) (room : Long s 0) where
   length-zeroed : length (zeroed headWords s) ≡ length s
@@ -54,8 +54,8 @@ module _ (s : List ℕ) (cap top : ℕ) (room : Long s 0) where
       simp (head-other, lit<, tt {0}) (zero-words headWords s (lit≤ tt) room .zeros _ l (omega arith))
 
 -- a good layout: every word afterwards
-pub laid-is : (s : List ℕ) (cap top : ℕ) → Long s cap → Fresh s (laid s cap top) cap top
-unfolding laid
+pub laid-is : (s : List ℕ) (cap top : ℕ) → Long s cap → Fresh s (laidWords s cap top) cap top
+unfolding laidWords
 laid-is s cap top room =
     let bare : Long s 0 = omega arith in
     let long = length-head s cap top bare in
@@ -68,14 +68,14 @@ laid-is s cap top room =
     }
 
 -- "BadLayout: laying out with capacity or top generation out of range, or a store too short", exactly; then nothing changes
-pub lays-out : (s : List ℕ) (cap top : ℕ) → Good (length s) cap top → layOut s cap top ≡ (laid s cap top, Done)
-unfolding layOut
+pub lays-out : (s : List ℕ) (cap top : ℕ) → GoodLayout (length s) cap top → layOutWords s cap top ≡ (laidWords s cap top, Done)
+unfolding layOutWords
 lays-out s cap top g = rw (good-is (length s) cap top g)
 
-pub refuses : (s : List ℕ) (cap top : ℕ) → ¬ Good (length s) cap top → layOut s cap top ≡ (s, Refused BadLayout)
+pub refuses : (s : List ℕ) (cap top : ℕ) → ¬ GoodLayout (length s) cap top → layOutWords s cap top ≡ (s, Refused BadLayout)
 refuses s cap top n = go (goodLayout (length s) cap top) refl
   where
-    go : (b : Bool) → goodLayout (length s) cap top ≡ b → layOut s cap top ≡ (s, Refused BadLayout)
+    go : (b : Bool) → goodLayout (length s) cap top ≡ b → layOutWords s cap top ≡ (s, Refused BadLayout)
     go true e = absurd (n (good-yes (length s) cap top e))
     go false e = sym (lay-refused s cap top e)
 

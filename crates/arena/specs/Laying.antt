@@ -10,7 +10,7 @@ use Rattle.arena.specs.Words.{headWords, fields, need, field, head}
 
 -- a layout is good in a store of `len` numbers; else "BadLayout: laying out with capacity or top generation out of range, or a store too
 -- short"
-pub record Good (len cap top : ℕ) : Type 0 where
+pub record GoodLayout (len cap top : ℕ) : Type 0 where
   pub range : InRange cap top
   pub room : need cap ≤ len
 

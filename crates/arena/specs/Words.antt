@@ -77,15 +77,15 @@ Long s cap = need cap ≤ length s
 abbrev pub Room : List ℕ → ℕ → Type 0
 Room s cap = Long s cap × (cap ≤ noSlot)
 
--- the place of the field f of the slot i: the four that a search reads stand together
-unfoldable pub place : ℕ → ℕ → ℕ → ℕ
-place cap i f = ifte (ltb f 4) (headWords + i * 4 + f) (headWords + cap * 4 + i * 6 + (f - 4))
+-- the wordAt of the field f of the slot i: the four that a search reads stand together
+unfoldable pub wordAt : ℕ → ℕ → ℕ → ℕ
+wordAt cap i f = ifte (ltb f 4) (headWords + i * 4 + f) (headWords + cap * 4 + i * 6 + (f - 4))
 
 unfoldable pub field : List ℕ → ℕ → ℕ → ℕ → ℕ
-field s cap i f = getD s (place cap i f) 0
+field s cap i f = getD s (wordAt cap i f) 0
 
 unfoldable pub put : List ℕ → ℕ → ℕ → ℕ → ℕ → List ℕ
-put s cap i f v = set s (place cap i f) v
+put s cap i f v = set s (wordAt cap i f) v
 
 unfoldable pub head : List ℕ → ℕ → ℕ
 head s h = getD s h 0

@@ -3,7 +3,7 @@
 ghost use mathlib.Core.Path.{_≡_};
 ghost use Prim.Native.Nat.{_<_};
 ghost use Rattle.arena.specs.Words.{headWords, Long, Room};
-ghost use Rattle.arena.specs.inner.Laying.{unlinked, blankOf, freshSlot, laySlots, zeroed, freshHead, goodLayout, layOut};
+ghost use Rattle.arena.specs.inner.Laying.{unlinked, blankOf, freshSlot, laySlots, zeroed, freshHead, goodLayout, layOutWords};
 use crate::words;
 use crate::words::BACK;
 use crate::words::CAPACITY;
@@ -128,7 +128,7 @@ fn good_layout(len: u64, capacity: u64, top: u64) -> bool
 }
 
 pub fn lay_out(s: &mut [u64], capacity: u64, top: u64) -> LaidOut
-    ensures { λ r. ⌜ (now (s .exit), r) ≡ layOut (now (s .entry)) capacity top ⌝ }
+    ensures { λ r. ⌜ (now (s .exit), r) ≡ layOutWords (now (s .entry)) capacity top ⌝ }
 {
     if good_layout(s.len() as u64, capacity, top) {
         fresh_header(s, capacity, top);

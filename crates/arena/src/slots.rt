@@ -3,7 +3,7 @@
 ghost use mathlib.Core.Path.{_≡_};
 ghost use Prim.Native.Nat.{_<_};
 ghost use Rattle.arena.specs.Words.{Room};
-ghost use Rattle.arena.specs.inner.Slots.{FoundIn, peekSlot, popped, takeSlot, TakenIn, pushed, freeSlot};
+ghost use Rattle.arena.specs.inner.Slots.{PeekedIn, peekSlot, popped, takeSlot, TakenIn, pushed, freeSlot};
 use crate::laying;
 use crate::words;
 use crate::words::GENERATION;
@@ -30,7 +30,7 @@ pub enum Freed {
 pub fn peek(s: &[u64], cap: u64) -> Taken
     requires { ⌜ Room (now s) cap ⌝ }
     ensures { λ r. ⌜ r ≡ peekSlot (now (s .entry)) cap ⌝ }
-    ensures { λ r. ⌜ FoundIn (now (s .entry)) cap r ⌝ }
+    ensures { λ r. ⌜ PeekedIn (now (s .entry)) cap r ⌝ }
 {
     let h = words::head(s, HEIGHT);
     if h < 1 {

@@ -6,7 +6,7 @@ use native.Mathlib.Omega.{arith}
 use borrow.Author.Tests.{lt-ltb, le-ltb, ltb-true, ltb-false}
 use Rattle.arena.specs.Words.{Long, headWords, fields, field, put, head, putHead, NEXT, FIRST}
 use Rattle.arena.specs.inner.Only.{Only, AnyField, AnyHead}
-use Rattle.arena.proofs.Laws.{field-same, head-same}
+use Rattle.arena.proofs.WordLaws.{field-same, head-same}
 use Rattle.arena.proofs.Only.{only-put, only-putHead}
 use Rattle.arena.proofs.Paths.{either}
 use Rattle.chain.specs.inner.Links.{hooked}

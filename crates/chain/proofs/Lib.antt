@@ -1,4 +1,4 @@
-pub mod Answers
+pub mod StepReads
 pub mod Hooks
-pub mod Laws
+pub mod LinkLaws
 pub mod StepLaws

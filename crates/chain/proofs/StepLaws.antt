@@ -5,7 +5,7 @@ use mathlib.Core.List.{List}
 use native.Mathlib.Omega.{arith}
 use borrow.Author.Tests.{eq-eqb, ne-eqb, lt-leb}
 use Rattle.handle.specs.Numbers.{noSlot}
-use Rattle.arena.specs.inner.Slots.{handleOf}
+use Rattle.arena.specs.inner.Slots.{handleWith}
 use Rattle.arena.specs.Words.{field, GENERATION}
 use Rattle.chain.specs.inner.Steps.{followed}
 use Rattle.chain.specs.declared.Stepped.the-variants.{At, End}
@@ -15,9 +15,9 @@ module _ (s : List ℕ) (cap p : ℕ) where
   unfolding followed
   follow-none e = rw (eq-eqb p noSlot e)
 
-  follow-slot : (p ≡ noSlot → ⊥) → p < cap → followed s cap p ≡ At (handleOf p (field s cap p GENERATION))
+  follow-slot : (p ≡ noSlot → ⊥) → p < cap → followed s cap p ≡ At (handleWith p (field s cap p GENERATION))
   unfolding followed
   follow-slot ne l = rw (ne-eqb p noSlot ne, lt-leb cap p l)
 
-  pub follow-at : cap ≤ noSlot → p < cap → followed s cap p ≡ At (handleOf p (field s cap p GENERATION))
+  pub follow-at : cap ≤ noSlot → p < cap → followed s cap p ≡ At (handleWith p (field s cap p GENERATION))
   follow-at few l = follow-slot (λ e. omega arith) l

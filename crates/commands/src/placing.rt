@@ -1,11 +1,11 @@
 // The commands that change the queue: `new`, the three insertions, `rem`.
 use answers::answer::Answer;
-use arena::laying::LaidOut;
+use handle::LaidOut;
 use arena::words::STORE;
 use handle::Key;
-use insert::place::Inserted;
+use handle::Inserted;
 use queue::taking;
-use remove::removing::Removed;
+use handle::Removed;
 use script::command::Place;
 use script::table;
 use script::table::TABLE;

@@ -9,7 +9,7 @@ use lib.Dec.{lit<}
 use lib.IntN.{ℤ, pos, _+ℤ_, _*ℤ_}
 use lib.Signed.{ltZ, _<ℤ_}
 use Rattle.due.specs.Floor.{Floored}
-use Rattle.due.specs.Due.{within, Between, Before, earlierDay, sameDay, dayLow, dayHigh, secondLow, secondHigh, secondsADay, momentOf, dayOf, secondOf}
+use Rattle.due.specs.Due.{within, InBounds, Earlier, earlierDay, sameDay, dayLow, dayHigh, secondLow, secondHigh, secondsADay, momentOf, dayOf, secondOf}
 use Rattle.due.proofs.Signs.{up, down, apart, equal, sum-law, diff-law, up-times, down-times, le-out, le-in, lt-out, lt-in, ltZ-false, true→yes}
 use Rattle.due.proofs.Floors.{floored, floored-out, floored-in, floored-one}
 use Rattle.due.proofs.Ranges.{within-yes, within-fact, same-test}
@@ -35,7 +35,7 @@ back m o =
     (omega (arith, moment-law (dayOf m o) (secondOf m o) o, floored-out (split m o), sum-law m o))
 
 -- the second that is read from a moment is in its range
-pub secondOf-in : (m o : ℤ) → Between secondLow secondHigh (secondOf m o)
+pub secondOf-in : (m o : ℤ) → InBounds secondLow secondHigh (secondOf m o)
 unfolding secondOf
 secondOf-in m o =
     record {
@@ -44,7 +44,7 @@ secondOf-in m o =
     }
 
 -- every day, and every second in its range, is read back from their moment
-pub there : (d s o : ℤ) → Between secondLow secondHigh s → (dayOf (momentOf d s o) o ≡ d) × (secondOf (momentOf d s o) o ≡ s)
+pub there : (d s o : ℤ) → InBounds secondLow secondHigh s → (dayOf (momentOf d s o) o ≡ d) × (secondOf (momentOf d s o) o ≡ s)
 unfolding secondOf
 there d s o h =
     let m = momentOf d s o in
@@ -57,17 +57,17 @@ there d s o h =
 -- ---- the order
 
 -- at one offset, of two local times the later one has the greater moment
-pub moment-later : (d s d′ s′ o : ℤ) → Between secondLow secondHigh s → Between secondLow secondHigh s′ → Before d s d′ s′ → momentOf d s o <ℤ momentOf d′ s′ o
+pub moment-later : (d s d′ s′ o : ℤ) → InBounds secondLow secondHigh s → InBounds secondLow secondHigh s′ → Earlier d s d′ s′ → momentOf d s o <ℤ momentOf d′ s′ o
 moment-later d s d′ s′ o g g′ (earlierDay h) =
     lt-in (momentOf d s o) (momentOf d′ s′ o) (omega (arith, moment-law d s o, moment-law d′ s′ o, lt-out h, le-out (g .below), le-out (g′ .above), apart s, apart s′))
 moment-later d s d′ s′ o g g′ (sameDay e h) =
     lt-in (momentOf d s o) (momentOf d′ s′ o) (omega (arith, moment-law d s o, moment-law d′ s′ o, ap up e, ap down e, lt-out h))
 
 -- and the other way round
-pub moment-earlier : (d s d′ s′ o : ℤ) → Between secondLow secondHigh s → Between secondLow secondHigh s′ → momentOf d s o <ℤ momentOf d′ s′ o → Before d s d′ s′
+pub moment-earlier : (d s d′ s′ o : ℤ) → InBounds secondLow secondHigh s → InBounds secondLow secondHigh s′ → momentOf d s o <ℤ momentOf d′ s′ o → Earlier d s d′ s′
 moment-earlier d s d′ s′ o g g′ h = go (ltZ d d′) refl
   where
-    go : (t : Bool) → ltZ d d′ ≡ t → Before d s d′ s′
+    go : (t : Bool) → ltZ d d′ ≡ t → Earlier d s d′ s′
     go true e = earlierDay (record { lt = true→yes e })
     go false e =
         let m = lt-out h in
@@ -81,7 +81,7 @@ moment-earlier d s d′ s′ o g g′ h = go (ltZ d d′) refl
 
 -- ---- the range: which moments have a day in its range, told without a division
 
-range-in : (m o : ℤ) → Between dayLow dayHigh (dayOf m o) → Between (momentOf dayLow secondLow o) (momentOf dayHigh secondHigh o) m
+range-in : (m o : ℤ) → InBounds dayLow dayHigh (dayOf m o) → InBounds (momentOf dayLow secondLow o) (momentOf dayHigh secondHigh o) m
 unfolding secondOf
 range-in m o h =
     let f = floored-out (split m o) in
@@ -91,7 +91,7 @@ range-in m o h =
       below = le-in m (momentOf dayHigh secondHigh o) (omega (arith, f, r, sum-law m o, moment-law dayHigh secondHigh o, le-out (h .below)));
     }
 
-range-out : (m o : ℤ) → Between (momentOf dayLow secondLow o) (momentOf dayHigh secondHigh o) m → Between dayLow dayHigh (dayOf m o)
+range-out : (m o : ℤ) → InBounds (momentOf dayLow secondLow o) (momentOf dayHigh secondHigh o) m → InBounds dayLow dayHigh (dayOf m o)
 unfolding secondOf
 range-out m o h =
     let f = floored-out (split m o) in

@@ -7,7 +7,7 @@ use lib.Dec.{T}
 use lib.Signed.{leZ, leZ-yes}
 use mir.Syntax.{w64}
 use mir.Val.{SFits}
-use Rattle.due.specs.Due.{Between, GoodTime, dayLow, dayHigh, secondLow, secondHigh, offsetLow, offsetHigh, momentOf}
+use Rattle.due.specs.Due.{InBounds, GoodTime, dayLow, dayHigh, secondLow, secondHigh, offsetLow, offsetHigh, momentOf}
 use Rattle.due.proofs.Signs.{up, down, apart, sum-law, up-times, down-times, le-out}
 use Rattle.due.proofs.Moments.{moment-law}
 use Rattle.due.proofs.Sizes.{fits}
@@ -46,16 +46,16 @@ module _ (d s o : ℤ) (g : GoodTime d s o) where
       (omega (arith, day-small .1, second-small .1, offset-small .0))
 
 -- the sum of a moment that lies between the first and the last one of an offset, and that offset
-pub local-fits : (m o : ℤ) → Between offsetLow offsetHigh o → Between (momentOf dayLow secondLow o) (momentOf dayHigh secondHigh o) m → SFits w64 (m +ℤ o)
+pub local-fits : (m o : ℤ) → InBounds offsetLow offsetHigh o → InBounds (momentOf dayLow secondLow o) (momentOf dayHigh secondHigh o) m → SFits w64 (m +ℤ o)
 local-fits m o g h =
     let e = sum-law m o in
     let n = apart (m +ℤ o) in
     fits (m +ℤ o) (omega (arith, moment-law dayHigh secondHigh o, le-out (h .below))) (omega (arith, moment-law dayLow secondLow o, le-out (h .above)))
 
 -- the first and the last local time of the days in range
-pub ends-good : (o : ℤ) → Between offsetLow offsetHigh o → (GoodTime dayLow secondLow o) × (GoodTime dayHigh secondHigh o)
+pub ends-good : (o : ℤ) → InBounds offsetLow offsetHigh o → (GoodTime dayLow secondLow o) × (GoodTime dayHigh secondHigh o)
 ends-good o g =
-    let day : (d : ℤ) → T (leZ dayLow d) → T (leZ d dayHigh) → Between dayLow dayHigh d = λ d p q. record { above = leZ-yes p; below = leZ-yes q } in (
+    let day : (d : ℤ) → T (leZ dayLow d) → T (leZ d dayHigh) → InBounds dayLow dayHigh d = λ d p q. record { above = leZ-yes p; below = leZ-yes q } in (
       record { dayIn = day dayLow tt tt; secondIn = record { above = leZ-yes tt; below = leZ-yes tt }; offsetIn = g },
       record { dayIn = day dayHigh tt tt; secondIn = record { above = leZ-yes tt; below = leZ-yes tt }; offsetIn = g },
     )

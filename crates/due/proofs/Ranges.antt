@@ -4,7 +4,7 @@ use mathlib.Core.Path.{_≡_, refl, sym}
 use mathlib.Core.Bool.{Bool, true, false, _&&_}
 use lib.IntN.{ℤ}
 use lib.Signed.{leZ}
-use Rattle.due.specs.Due.{within, Between, GoodTime, goodDay, goodSecond, goodOffset}
+use Rattle.due.specs.Due.{within, InBounds, GoodTime, goodDay, goodSecond, goodOffset}
 use Rattle.due.proofs.Signs.{yes→true, true→yes}
 
 -- ---- tests joined by &&
@@ -24,11 +24,11 @@ same-test false false f g = refl
 
 -- ---- a range: the test and the fact
 
-pub within-yes : {low high z : ℤ} → Between low high z → within low high z ≡ true
+pub within-yes : {low high z : ℤ} → InBounds low high z → within low high z ≡ true
 unfolding within
 within-yes {low} {high} {z} h = both (yes→true (leZ low z) (h .above .le)) (yes→true (leZ z high) (h .below .le))
 
-pub within-fact : (low high z : ℤ) → within low high z ≡ true → Between low high z
+pub within-fact : (low high z : ℤ) → within low high z ≡ true → InBounds low high z
 unfolding within
 within-fact low high z e =
     let p = both-out (leZ low z) (leZ z high) e in

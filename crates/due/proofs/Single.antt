@@ -10,7 +10,7 @@ use Rattle.due.specs.declared.KeyAnswer.the-variants as K
 use Rattle.due.specs.declared.Time.{Time}
 use Rattle.due.specs.declared.TimeAnswer.{TimeAnswer}
 use Rattle.due.specs.declared.TimeAnswer.the-variants as T
-use Rattle.due.specs.Answers.{keyFound, timeFound}
+use Rattle.due.specs.TimeAnswers.{keyFound, timeFound}
 
 pub keyFound-one : (a b : KeyAnswer) → keyFound a ≡ keyFound b → a ≡ b
 keyFound-one (K.At k) (K.At m) e = cc

@@ -10,7 +10,7 @@ use lib.IntN.{ℤ}
 use lib.Signed.{_<ℤ_}
 use Rattle.handle.specs.Numbers.{refusalNumber}
 use Rattle.handle.specs.declared.Refusal.the-variants.{BadTime}
-use Rattle.due.specs.Due.{Between, GoodTime, GoodKey, Before, goodDay, goodSecond, goodOffset, dayLow, dayHigh, secondLow, secondHigh, keyIs, noKey, timeIs, noTime, keyOr6, timeOr6, keyOf, dayOf, secondOf, toKey, fromKey}
+use Rattle.due.specs.Due.{InBounds, GoodTime, GoodKey, Earlier, goodDay, goodSecond, goodOffset, dayLow, dayHigh, secondLow, secondHigh, keyIs, noKey, timeIs, noTime, keyOr6, timeOr6, keyOf, dayOf, secondOf, toKey, fromKey}
 use Rattle.due.proofs.Signs.{true→yes}
 use Rattle.due.proofs.Ranges.{both, both-out, within-yes, within-fact, good-yes, good-fact}
 use Rattle.due.proofs.Moments.{back, there, secondOf-in, moment-later, moment-earlier}
@@ -101,15 +101,15 @@ fromKey-refused k o n = (to, from)
 pub there-and-back : (d s o : ℤ) → GoodTime d s o → fromKey (keyOf d s o) o ≡ timeIs d s
 there-and-back d s o g =
     let p = there d s o (g .secondIn) in
-    let inside : Between dayLow dayHigh (dayOf (keyOf d s o) o) = rw (p .0) (g .dayIn) in
+    let inside : InBounds dayLow dayHigh (dayOf (keyOf d s o) o) = rw (p .0) (g .dayIn) in
     fromKey-time (keyOf d s o) o d s .1 (record { offsetIn = g .offsetIn; dayIn = inside }, sym (p .0), sym (p .1))
 
 -- the time of a key gives the key back
 pub back-and-there : (k o d s : ℤ) → fromKey k o ≡ timeIs d s → toKey d s o ≡ keyIs k
 back-and-there k o d s e =
     let p = fromKey-time k o d s .0 e in
-    let inDay : Between dayLow dayHigh d = rw (p .1) (p .0 .dayIn) in
-    let inSecond : Between secondLow secondHigh s = rw (p .2) (secondOf-in k o) in
+    let inDay : InBounds dayLow dayHigh d = rw (p .1) (p .0 .dayIn) in
+    let inSecond : InBounds secondLow secondHigh s = rw (p .2) (secondOf-in k o) in
     let same : k ≡ keyOf d s o = rw (p .1, p .2) (sym (back k o)) in
     toKey-key d s o k .1 (record { dayIn = inDay; secondIn = inSecond; offsetIn = p .0 .offsetIn }, same)
 
@@ -123,12 +123,12 @@ inverse d s o k = (to, back-and-there k o d s)
 -- ---- the order
 
 -- at one offset, of two times in their ranges the later one has the greater key, and no other
-pub order : (d s d′ s′ o : ℤ) → GoodTime d s o → GoodTime d′ s′ o → (Before d s d′ s′) ↔ (keyOf d s o <ℤ keyOf d′ s′ o)
+pub order : (d s d′ s′ o : ℤ) → GoodTime d s o → GoodTime d′ s′ o → (Earlier d s d′ s′) ↔ (keyOf d s o <ℤ keyOf d′ s′ o)
 order d s d′ s′ o g g′ =
     (moment-later d s d′ s′ o (g .secondIn) (g′ .secondIn), moment-earlier d s d′ s′ o (g .secondIn) (g′ .secondIn))
 
 -- the same, told of the answers
-pub later : (d s d′ s′ o k k′ : ℤ) → toKey d s o ≡ keyIs k → toKey d′ s′ o ≡ keyIs k′ → Before d s d′ s′ → k <ℤ k′
+pub later : (d s d′ s′ o k k′ : ℤ) → toKey d s o ≡ keyIs k → toKey d′ s′ o ≡ keyIs k′ → Earlier d s d′ s′ → k <ℤ k′
 later d s d′ s′ o k k′ e e′ h =
     let p = toKey-key d s o k .0 e in
     let q = toKey-key d′ s′ o k′ .0 e′ in

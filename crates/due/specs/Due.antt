@@ -40,7 +40,7 @@ offsetHigh = pos 50_400
 unfoldable pub within : ℤ → ℤ → ℤ → Bool
 within low high z = leZ low z && leZ z high
 
-pub record Between (low high z : ℤ) : Type 0 where
+pub record InBounds (low high z : ℤ) : Type 0 where
   pub above : low ≤ℤ z
   pub below : z ≤ℤ high
 
@@ -55,9 +55,9 @@ goodOffset offset = within offsetLow offsetHigh offset
 
 -- every field of a time lies in its range
 pub record GoodTime (day second offset : ℤ) : Type 0 where
-  pub dayIn : Between dayLow dayHigh day
-  pub secondIn : Between secondLow secondHigh second
-  pub offsetIn : Between offsetLow offsetHigh offset
+  pub dayIn : InBounds dayLow dayHigh day
+  pub secondIn : InBounds secondLow secondHigh second
+  pub offsetIn : InBounds offsetLow offsetHigh offset
 
 -- ---- the answers
 
@@ -111,10 +111,10 @@ fromKey key offset =
 
 -- a key that `fromKey` answers: the offset and the day that is read from it lie in their ranges
 pub record GoodKey (key offset : ℤ) : Type 0 where
-  pub offsetIn : Between offsetLow offsetHigh offset
-  pub dayIn : Between dayLow dayHigh (dayOf key offset)
+  pub offsetIn : InBounds offsetLow offsetHigh offset
+  pub dayIn : InBounds dayLow dayHigh (dayOf key offset)
 
 -- one local time lies before another
-pub data Before (day second day′ second′ : ℤ) : Type 0 where
-  earlierDay : day <ℤ day′ → Before day second day′ second′
-  sameDay : day ≡ day′ → second <ℤ second′ → Before day second day′ second′
+pub data Earlier (day second day′ second′ : ℤ) : Type 0 where
+  earlierDay : day <ℤ day′ → Earlier day second day′ second′
+  sameDay : day ≡ day′ → second <ℤ second′ → Earlier day second day′ second′

@@ -1,4 +1,4 @@
 -- Due times: document 01's definitions (Due, over Floor), and what this crate's answers say in them.
 pub mod Floor
 pub mod Due
-pub mod Answers
+pub mod TimeAnswers

@@ -9,7 +9,7 @@ ghost use mir.Syntax.{w64};
 ghost use mir.Val.{SFits};
 ghost use Rattle.due.specs.Due.{within, GoodTime, momentOf, toKey, fromKey};
 ghost use Rattle.due.specs.Floor.{floorDiv, floorMod};
-ghost use Rattle.due.specs.Answers.{keyFound, timeFound};
+ghost use Rattle.due.specs.TimeAnswers.{keyFound, timeFound};
 
 // Document 01's ranges of a time's fields, both ends included.
 pub const DAY_LOW: i64 = -1_000_000;

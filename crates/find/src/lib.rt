@@ -4,7 +4,7 @@
 ghost use mathlib.Core.Path.{_≡_};
 ghost use Prim.Native.Nat.{_<_, _≤_};
 ghost use Rattle.arena.specs.Words.{Room};
-ghost use Rattle.find.specs.inner.Seeking.{sideOf, seekModel, FoundIn};
+ghost use Rattle.find.specs.inner.Seeking.{sideOfKey, seekModel, FoundIn};
 use arena::words;
 use arena::words::BUDGET;
 use arena::words::KEY;
@@ -25,7 +25,7 @@ pub enum Found {
 // The side of a node's key on which k lies: 0 less, 1 not less. It stands alone so that the search has no branch on the side, which
 // no processor foresees: a side is added to LEFT.
 fn side_of(k: u64, key: u64) -> u64
-    ensures { λ r. ⌜ r ≡ sideOf k key ⌝ }
+    ensures { λ r. ⌜ r ≡ sideOfKey k key ⌝ }
     ensures { λ r. ⌜ r ≤ 1 ⌝ }
 {
     if k < key {

@@ -3,7 +3,7 @@
 use arena::header;
 use arena::header::Header;
 use arena::laying;
-use arena::laying::LaidOut;
+use handle::LaidOut;
 use arena::slots;
 use arena::slots::Freed;
 use arena::slots::Taken;

@@ -12,8 +12,8 @@ use Rattle.wavl.specs.Lists.{In}
 use Rattle.wavl.specs.Entry.{Entry}
 use Rattle.wavl.specs.Tree.{left, right}
 use Rattle.wavl.proofs.Lists.{all-in}
-use Rattle.rules.specs.Queue.{Handle, handleOf, Queue, fresh, entries, Holds, Has, Names, Live}
-use Rattle.rules.specs.Answers.{Where, notInserted, Read, reads, notRead, Stepped, stands, ends, notStepped, Found, equalAt, beside, noEntry, notFound, failedOrdRequirement}
+use Rattle.rules.specs.Queue.{Handle, handleOf, Queue, fresh, entries, HasEntry, Has, Names, Live}
+use Rattle.rules.specs.Answers.{Where, notInserted, Read, reads, notRead, Stepped, stands, atEnd, notStepped, SearchAnswer, equalAt, beside, noEntry, notFound, failedOrdRequirement}
 use Rattle.rules.specs.Insert.{manual, insert}
 use Rattle.rules.specs.Look.{read, searchFor, standAt}
 use Rattle.rules.specs.Sound.{Sound}
@@ -46,7 +46,7 @@ not-live-refused g q s n =
     }
 
 -- the entry that a handle names is the one that it reads
-reads-it : (q : Queue) → Sound q → (g : Handle) (x : Entry) → Holds q x → Names g x → (a : Read) → ReadAnswers g q a → a ≡ reads (x .key) (x .value)
+reads-it : (q : Queue) → Sound q → (g : Handle) (x : Entry) → HasEntry q x → Names g x → (a : Read) → ReadAnswers g q a → a ≡ reads (x .key) (x .value)
 reads-it q s g x i n (reads k v) f =
     let e = slot-unique (entries q) (live-once s) (f .0) x (f .1) i (f .2 .0 ∙ sym (n .0)) in
     rw (← (f .3), ← (f .4), e)
@@ -55,21 +55,21 @@ reads-it q s g x i n (notRead m) f = absurd (f .1 (x, i, n))
 -- and it can be stood at
 stands-there : (q : Queue) (g : Handle) → Live g q → (a : Stepped) → StandAnswers g q a → a ≡ stands g
 stands-there q g l (stands i) f = ap stands (f .0)
-stands-there q g l ends f = absurd f
+stands-there q g l atEnd f = absurd f
 stands-there q g l (notStepped n) f = absurd (f .1 l)
 
 -- a search misses exactly when no entry of the queue has the key
-misses-is : (key : ℕ) (q : Queue) (a : Found) → SearchAnswers key q a → Misses a ↔ (¬ Has key q)
+misses-is : (key : ℕ) (q : Queue) (a : SearchAnswer) → SearchAnswers key q a → Misses a ↔ (¬ Has key q)
 misses-is key q (equalAt h n) f = (λ m. absurd m, λ m. m (f .0, f .1, f .3))
 misses-is key q (beside h d n) f = (λ m. f .0, λ m. tt)
 misses-is key q (noEntry n) f = (λ m i. rw (f .1) at (i .1), λ m. tt)
 misses-is key q (notFound n) f = absurd f
 
 module _ (b : Book) (q : Queue) (k : Kept b q) where
-  holds-left : (x : Entry) → Holds q x → In x (b .left)
+  holds-left : (x : Entry) → HasEntry q x → In x (b .left)
   holds-left x i = shuffled-back (b .left) (entries q) (k .same) x i
 
-  left-holds : (x : Entry) → In x (b .left) → Holds q x
+  left-holds : (x : Entry) → In x (b .left) → HasEntry q x
   left-holds x i = shuffled-there (b .left) (entries q) (k .same) x i
 
   live-given : (g : Handle) → Live g q → In g (b .given)
@@ -89,7 +89,7 @@ module _ (b : Book) (q : Queue) (k : Kept b q) where
   refused-not-live g (inl n) l = n (live-given g l)
   refused-not-live g (inr i) l = gone-not-live g i l
 
-  reading-is : (g : Handle) (x : Entry) → Holds q x → Names g x → read g q ≡ reads (x .key) (x .value)
+  reading-is : (g : Handle) (x : Entry) → HasEntry q x → Names g x → read g q ≡ reads (x .key) (x .value)
   reading-is g x i n = (reads-it q (k .sound) g x i n (read g q) (read-answers g q (k .sound)))
 
   missing : (key : ℕ) → Misses (searchFor key q) ↔ (¬ HasLeft key b)

@@ -1,5 +1,5 @@
 -- Demand 3 for anything that follows the definitions call by call: what the store's models have to be linked to.
--- A reader may rely on follows-demand once a store's step is shown to follow (specs/Follow); crate `demand` does.
+-- A reader may rely on follows-demand once a store's step is shown to follow (specs/Follow); crate `history_of_store` does.
 use mathlib.Core.Path.{_≡_, refl}
 use mathlib.Core.Bool.{Bool}
 use mathlib.Core.List.{List, [], _∷_}

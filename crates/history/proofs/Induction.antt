@@ -12,7 +12,7 @@ use Rattle.wavl.specs.Lists.{All, In, Once}
 use Rattle.wavl.specs.Entry.{Entry, slots}
 use Rattle.wavl.specs.Tree.{inorder}
 use Rattle.wavl.proofs.Lists.{all-map, all-in, all-of, in-slots}
-use Rattle.rules.specs.Queue.{Handle, handleOf, entryWith, Queue, freshFrom, fresh, entries, Holds, Live}
+use Rattle.rules.specs.Queue.{Handle, handleOf, entryWith, Queue, freshFrom, fresh, entries, HasEntry, Live}
 use Rattle.rules.specs.Answers.{Note, noNote, generationOverflow}
 use Rattle.rules.specs.Sound.{Sound}
 use Rattle.rules.specs.inner.Changes.{Adds, Swaps, Takes}
@@ -67,7 +67,7 @@ handles-once [] o = tt
 handles-once (x ∷ l) o =
     (handles-all _ l (λ y i e. all-in _ (slots l) (o .0) (y .slot) (in-slots y l i) (ap (λ (h : Handle). h .slot) e)), handles-once l (o .1))
 
-handle-live : (q : Queue) (g : Handle) → (x : Entry) × Holds q x × (g ≡ handleOf x) → Live g q
+handle-live : (q : Queue) (g : Handle) → (x : Entry) × HasEntry q x × (g ≡ handleOf x) → Live g q
 handle-live q g r = (r .0, r .1, rw (r .2) (refl, refl))
 
 pub kept-start : (q : Queue) → Sound q → Kept (begun (entries q) (length (q .free))) q

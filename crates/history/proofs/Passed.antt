@@ -9,7 +9,7 @@ use native.Mathlib.Omega.{arith}
 use Rattle.wavl.specs.Lists.{All, In, Differ}
 use Rattle.wavl.specs.Entry.{Entry, revalued, slots}
 use Rattle.wavl.proofs.Lists.{all-map, in-middle, in-slots, pairwise-across}
-use Rattle.rules.specs.Queue.{Handle, handle, handleOf, entryWith, Queue, entries, Holds, Names, Live}
+use Rattle.rules.specs.Queue.{Handle, handle, handleOf, entryWith, Queue, entries, HasEntry, Names, Live}
 use Rattle.rules.specs.Remove.{freed}
 use Rattle.rules.specs.Sound.{freeSlots, Sound}
 use Rattle.rules.specs.inner.Changes.{Adds, Swaps, Takes}
@@ -21,7 +21,7 @@ use Rattle.rules.proofs.Handles.{adds-handle, takes-handle}
 
 -- the slot of a given handle is now at its generation or above (n = 0), or above it (n = 1); a free one is above it in any case
 pub record Aged (n : ℕ) (q : Queue) (g : Handle) : Type 0 where
-  pub live : (x : Entry) → Holds q x → x .slot ≡ g .slot → g .generation + n ≤ x .generation
+  pub live : (x : Entry) → HasEntry q x → x .slot ≡ g .slot → g .generation + n ≤ x .generation
   pub free : (f : Handle) → In f (q .free) → f .slot ≡ g .slot → g .generation < f .generation
 
 in-free : (f : Handle) (l : List Handle) → In f l → In (f .slot) (freeSlots l)
@@ -31,12 +31,12 @@ in-free f (g ∷ l) (inl e) = inl (ap (λ (k : Handle). k .slot) e)
 in-free f (g ∷ l) (inr i) = inr (in-free f l i)
 
 -- "Each slot is live, free or retired, one only."
-pub live-not-free : {q : Queue} → Sound q → (x : Entry) → Holds q x → (f : Handle) → In f (q .free) → ¬ (x .slot ≡ f .slot)
+pub live-not-free : {q : Queue} → Sound q → (x : Entry) → HasEntry q x → (f : Handle) → In f (q .free) → ¬ (x .slot ≡ f .slot)
 live-not-free {q} s x i f j =
     pairwise-across Differ (slots (entries q)) (freeSlots (q .free)) (s .apart) (x .slot) (f .slot) (in-slots x (entries q) i) (in-free f (q .free) j)
 
 -- the slot of a live entry is at the entry's generation
-pub live-aged : {q : Queue} → Sound q → (x : Entry) → Holds q x → Aged 0 q (handleOf x)
+pub live-aged : {q : Queue} → Sound q → (x : Entry) → HasEntry q x → Aged 0 q (handleOf x)
 live-aged {q} s x i = record {
   live = λ y j e. let z = ap (λ (w : Entry). w .generation) (slot-unique (entries q) (live-once s) y x j i e) in omega arith;
   free = λ f j e. absurd (live-not-free s x i f j (sym e));
@@ -106,7 +106,7 @@ taken-passed {q} {q′} h y s n c = record {
     gone : HandleGone q q′ h y
     gone = takes-handle h s n c
 
-    same : (x : Entry) → Holds q′ x → x .slot ≡ h .slot → Names h x
+    same : (x : Entry) → HasEntry q′ x → x .slot ≡ h .slot → Names h x
     same x i e = rw (slot-unique (entries q) (live-once s) x y (gone .others x .0 i .0) (gone .was-there) (e ∙ sym (n .0))) n
 
     above : (f : Handle) → f .slot ≡ h .slot → (f ≡ handle (y .slot) (suc (y .generation))) ⊎ In f (q .free) → h .generation < f .generation

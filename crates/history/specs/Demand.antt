@@ -9,8 +9,8 @@ use Rattle.wavl.specs.Entry.{Entry, Rising}
 use Rattle.wavl.specs.Tree.{inorder}
 use Rattle.wavl.specs.Ranks.{Ranked}
 use Rattle.wavl.specs.Search.{path}
-use Rattle.rules.specs.Queue.{Handle, handleOf, Queue, entries, Holds, Names, Live}
-use Rattle.rules.specs.Answers.{Where, notLaid, notInserted, wouldRefuse, notRemoved, Read, reads, notRead, Stepped, stands, ends, notStepped, Found, equalAt, beside, noEntry, notFound, failedOrdRequirement, invalidPtr}
+use Rattle.rules.specs.Queue.{Handle, handleOf, Queue, entries, HasEntry, Names, Live}
+use Rattle.rules.specs.Answers.{Where, notLaid, notInserted, wouldRefuse, notRemoved, Read, reads, notRead, Stepped, stands, atEnd, notStepped, SearchAnswer, equalAt, beside, noEntry, notFound, failedOrdRequirement, invalidPtr}
 use Rattle.rules.specs.Insert.{manual, insert, foresee}
 use Rattle.rules.specs.Remove.{remove}
 use Rattle.rules.specs.Look.{read, searchFor, standAt, next, prev}
@@ -33,7 +33,7 @@ abbrev pub HasLeft : ℕ → Book → Type 0
 HasLeft key b = (x : Entry) × In x (b .left) × (x .key ≡ key)
 
 -- a search that answers no equal entry; a refusal is no answer of a search
-abbrev pub Misses : Found → Type 0
+abbrev pub Misses : SearchAnswer → Type 0
 Misses (equalAt h n) = ⊥
 Misses (beside h w n) = Unit {0}
 Misses (noEntry n) = Unit {0}
@@ -48,7 +48,7 @@ pub record Demand (b : Book) (q : Queue) : Type 0 where
   pub rising : Rising (entries q)
   -- "the entries are those that the history of answers leaves"
   pub same-entries : Shuffled (b .left) (entries q)
-  pub entry-left : (x : Entry) → Holds q x ↔ In x (b .left)
+  pub entry-left : (x : Entry) → HasEntry q x ↔ In x (b .left)
   pub number-left : length (entries q) ≡ length (b .left)
   -- "the handle of each entry added and not since removed names it": it reads the key and the latest value, and can be stood at
   pub handle-reads : (x : Entry) → In x (b .left) → read (handleOf x) q ≡ reads (x .key) (x .value)

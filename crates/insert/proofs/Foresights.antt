@@ -8,7 +8,7 @@ use Rattle.handle.specs.declared.Side.{Side}
 use Rattle.handle.specs.declared.Refusal.the-variants.{NotWithinCapacity, FailedOrdRequirement}
 use Rattle.handle.specs.declared.Refusal as R
 use Rattle.arena.specs.Keys.{stored}
-use Rattle.arena.specs.inner.Slots.{handleOf, peekSlot}
+use Rattle.arena.specs.inner.Slots.{handleWith, peekSlot}
 use Rattle.arena.specs.Words.{field, GENERATION}
 use Rattle.arena.specs.declared.slots.Taken.{Taken}
 use Rattle.arena.specs.declared.slots.Taken as T
@@ -16,8 +16,8 @@ use Rattle.insert.specs.inner.Kinds.{PreparedIn, preparedNormal, prepare
 use Rattle.insert.specs.inner.Ahead.{nextNew, lookedAhead, aheadNormal, aheadEmpty, aheadManual}
 use Rattle.insert.specs.declared.kinds.Prepared.{Prepared}
 use Rattle.insert.specs.declared.kinds.Prepared.the-variants.{Alone, Beside, Replace, Fail, NotSound}
-use Rattle.insert.specs.declared.ahead.Ahead.{Ahead}
-use Rattle.insert.specs.declared.ahead.Ahead.the-variants.{New, Replacing, Refused}
+use Rattle.handle.specs.declared.Ahead.{Ahead}
+use Rattle.handle.specs.declared.Ahead.the-variants.{New, Replacing, Refused}
 
 module _ (s : List ℕ) (cap : ℕ) (r : Taken) (is : r ≡ peekSlot s cap) where
   pub new-at : (h : Handle) → r ≡ T.the-variants.At h → New h ≡ nextNew s cap
@@ -50,7 +50,7 @@ module _ (s : List ℕ) (cap : ℕ) (p : Prepared) where
   pub ahead-beside : (x : Ahead) (j d : ℕ) → p ≡ Beside j d → x ≡ nextNew s cap → x ≡ lookedAhead s cap p
   ahead-beside x j d e q = rw e q
 
-  pub ahead-replace : (i : ℕ) (h : Handle) → p ≡ Replace i → h ≡ handleOf i (field s cap i GENERATION) → Replacing h ≡ lookedAhead s cap p
+  pub ahead-replace : (i : ℕ) (h : Handle) → p ≡ Replace i → h ≡ handleWith i (field s cap i GENERATION) → Replacing h ≡ lookedAhead s cap p
   ahead-replace i h e q = rw (e, q)
 
   pub ahead-fail : p ≡ Fail → Refused FailedOrdRequirement ≡ lookedAhead s cap p

@@ -1,6 +1,6 @@
-pub mod Answers
+pub mod EveryAnswer
 pub mod Choices
 pub mod Foresights
 pub mod Keeps
-pub mod Laws
+pub mod InsertLeaves
 pub mod Placings

@@ -9,16 +9,16 @@ use Rattle.handle.specs.declared.Side.{Side}
 use Rattle.handle.specs.declared.Refusal.the-variants.{NotWithinCapacity, FailedOrdRequirement}
 use Rattle.handle.specs.declared.Refusal as R
 use Rattle.arena.specs.Keys.{stored}
-use Rattle.arena.specs.inner.Slots.{TakenIn, handleOf, takeSlot}
+use Rattle.arena.specs.inner.Slots.{TakenIn, handleWith, takeSlot}
 use Rattle.arena.specs.Words.{field, put, GENERATION, VALUE}
 use Rattle.arena.specs.declared.slots.Taken.{Taken}
 use Rattle.arena.specs.declared.slots.Taken as T
 use Rattle.insert.specs.inner.Kinds.{preparedNormal, preparedEmpty, preparedManual}
-use Rattle.insert.specs.inner.Place.{standAlone, placedAlone, hungBelow, placedBeside, replaced, applied, insertNormal, insertEmpty, insertManual}
+use Rattle.insert.specs.inner.Place.{standAlone, placedAlone, hungBelow, placedBeside, valueReplaced, applied, normalInserted, emptyInserted, manualInserted}
 use Rattle.insert.specs.declared.kinds.Prepared.{Prepared}
 use Rattle.insert.specs.declared.kinds.Prepared.the-variants.{Alone, Beside, Replace, Fail, NotSound}
-use Rattle.insert.specs.declared.place.Inserted.{Inserted}
-use Rattle.insert.specs.declared.place.Inserted.the-variants.{New, Replacing, Refused}
+use Rattle.handle.specs.declared.Inserted.{Inserted}
+use Rattle.handle.specs.declared.Inserted.the-variants.{New, Replacing, Refused}
 
 pub taken-low : (cap : ℕ) (r : Taken) → TakenIn cap r → (h : Handle) → r ≡ T.the-variants.At h → h .slot .0 < cap
 taken-low cap r lies h e = rw e at lies
@@ -56,9 +56,9 @@ module _ (s : List ℕ) (cap : ℕ) (key : ℤ) (value : ℕ) (t : List ℕ) (r 
       unfolding placedBeside
       beside-bad f = simp (← is, e, ← q, f)
 
-pub replace-is : (s : List ℕ) (cap i value : ℕ) (h : Handle) (old : ℕ) (x : List ℕ) → h ≡ handleOf i (field s cap i GENERATION) → old ≡ field s cap i VALUE
-    → x ≡ put s cap i VALUE value → _≡_ {A = List ℕ × Inserted} (x, Replacing h old) (replaced s cap i value)
-unfolding replaced
+pub replace-is : (s : List ℕ) (cap i value : ℕ) (h : Handle) (old : ℕ) (x : List ℕ) → h ≡ handleWith i (field s cap i GENERATION) → old ≡ field s cap i VALUE
+    → x ≡ put s cap i VALUE value → _≡_ {A = List ℕ × Inserted} (x, Replacing h old) (valueReplaced s cap i value)
+unfolding valueReplaced
 replace-is s cap i value h old x e f g = rw (e, f, g)
 
 -- by what was prepared
@@ -69,7 +69,7 @@ module _ (s : List ℕ) (cap : ℕ) (p : Prepared) (key : ℤ) (value : ℕ) whe
   pub apply-beside : (x : List ℕ × Inserted) (j d : ℕ) → p ≡ Beside j d → x ≡ placedBeside s cap j d key value → x ≡ applied s cap p key value
   apply-beside x j d e q = rw e q
 
-  pub apply-replace : (x : List ℕ × Inserted) (i : ℕ) → p ≡ Replace i → x ≡ replaced s cap i value → x ≡ applied s cap p key value
+  pub apply-replace : (x : List ℕ × Inserted) (i : ℕ) → p ≡ Replace i → x ≡ valueReplaced s cap i value → x ≡ applied s cap p key value
   apply-replace x i e q = rw e q
 
   pub apply-fail : p ≡ Fail → _≡_ {A = List ℕ × Inserted} (s, Refused FailedOrdRequirement) (applied s cap p key value)
@@ -80,14 +80,14 @@ module _ (s : List ℕ) (cap : ℕ) (p : Prepared) (key : ℤ) (value : ℕ) whe
 
   -- the three kinds
   module _ (x : List ℕ × Inserted) (is : x ≡ applied s cap p key value) where
-    pub insert-as-normal : (k : ℕ) → k ≡ stored key → p ≡ preparedNormal s cap k → x ≡ insertNormal s cap key value
-    unfolding insertNormal
+    pub insert-as-normal : (k : ℕ) → k ≡ stored key → p ≡ preparedNormal s cap k → x ≡ normalInserted s cap key value
+    unfolding normalInserted
     insert-as-normal k e f = rw (← e, ← f) is
 
-    pub insert-as-empty : p ≡ preparedEmpty s → x ≡ insertEmpty s cap key value
-    unfolding insertEmpty
+    pub insert-as-empty : p ≡ preparedEmpty s → x ≡ emptyInserted s cap key value
+    unfolding emptyInserted
     insert-as-empty f = rw (← f) is
 
-    pub insert-as-manual : (h : Handle) (side : Side) (k : ℕ) → k ≡ stored key → p ≡ preparedManual s cap h side k → x ≡ insertManual s cap h side key value
-    unfolding insertManual
+    pub insert-as-manual : (h : Handle) (side : Side) (k : ℕ) → k ≡ stored key → p ≡ preparedManual s cap h side k → x ≡ manualInserted s cap h side key value
+    unfolding manualInserted
     insert-as-manual h side k e f = rw (← e, ← f) is

@@ -4,7 +4,7 @@
 ghost use mathlib.Core.Path.{_≡_};
 ghost use Prim.Native.Nat.{_<_};
 ghost use Rattle.arena.specs.Words.{Room, field as fieldOf, GENERATION as GENERATION_OF};
-ghost use Rattle.arena.specs.inner.Slots.{handleOf};
+ghost use Rattle.arena.specs.inner.Slots.{handleWith};
 ghost use Rattle.insert.specs.inner.Kinds.{PreparedIn};
 ghost use Rattle.insert.specs.inner.Ahead.{nextNew, lookedAhead, aheadNormal, aheadEmpty, aheadManual};
 use crate::kinds;
@@ -32,7 +32,7 @@ pub enum Ahead {
 pub fn name(s: &[u64], cap: u64, i: u64) -> Handle
     requires { ⌜ Room (now s) cap ⌝ }
     requires { ⌜ i < cap ⌝ }
-    ensures { λ r. ⌜ r ≡ handleOf i (fieldOf (now (s .entry)) cap i GENERATION_OF) ⌝ }
+    ensures { λ r. ⌜ r ≡ handleWith i (fieldOf (now (s .entry)) cap i GENERATION_OF) ⌝ }
 {
     let g = words::field(s, cap, i, GENERATION);
     Handle::new(Slot(i), Generation(g))

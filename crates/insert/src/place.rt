@@ -5,7 +5,7 @@ ghost use mathlib.Core.Path.{_≡_};
 ghost use Prim.Native.Nat.{_<_, _≤_};
 ghost use Rattle.arena.specs.Words.{Room};
 ghost use Rattle.insert.specs.inner.Kinds.{PreparedIn};
-ghost use Rattle.insert.specs.inner.Place.{standAlone, placedAlone, hungBelow, placedBeside, replaced, applied, insertNormal, insertEmpty, insertManual};
+ghost use Rattle.insert.specs.inner.Place.{standAlone, placedAlone, hungBelow, placedBeside, valueReplaced, applied, normalInserted, emptyInserted, manualInserted};
 use crate::ahead;
 use crate::kinds;
 use crate::kinds::Prepared;
@@ -20,7 +20,7 @@ use handle::Handle;
 use handle::Key;
 use handle::Refusal;
 use handle::Side;
-use rebalance::ranks;
+use raise::ranks;
 
 // "Any insertion answers New or Replacing with the handle, and the old value if replacing."
 pub enum Inserted {
@@ -109,11 +109,11 @@ fn place_beside(s: &mut [u64], cap: u64, p: u64, d: u64, key: Key, value: u64) -
     }
 }
 
-// "Equal: the value is replaced, the old one returned, the handle kept, no slot used."
+// "Equal: the value is valueReplaced, the old one returned, the handle kept, no slot used."
 fn replace(s: &mut [u64], cap: u64, i: u64, value: u64) -> Inserted
     requires { ⌜ Room (now s) cap ⌝ }
     requires { ⌜ i < cap ⌝ }
-    ensures { λ r. ⌜ (now (s .exit), r) ≡ replaced (now (s .entry)) cap i value ⌝ }
+    ensures { λ r. ⌜ (now (s .exit), r) ≡ valueReplaced (now (s .entry)) cap i value ⌝ }
 {
     let h = ahead::name(s, cap, i);
     let old = words::field(s, cap, i, VALUE);
@@ -148,7 +148,7 @@ pub fn apply(s: &mut [u64], cap: u64, p: Prepared, key: Key, value: u64) -> Inse
 
 pub fn insert_normal(s: &mut [u64], cap: u64, key: Key, value: u64) -> Inserted
     requires { ⌜ Room (now s) cap ⌝ }
-    ensures { λ r. ⌜ (now (s .exit), r) ≡ insertNormal (now (s .entry)) cap (key .0) value ⌝ }
+    ensures { λ r. ⌜ (now (s .exit), r) ≡ normalInserted (now (s .entry)) cap (key .0) value ⌝ }
 {
     let k = keys::stored_key(key);
     let p = kinds::prepare_normal(s, cap, k);
@@ -157,7 +157,7 @@ pub fn insert_normal(s: &mut [u64], cap: u64, key: Key, value: u64) -> Inserted
 
 pub fn insert_empty(s: &mut [u64], cap: u64, key: Key, value: u64) -> Inserted
     requires { ⌜ Room (now s) cap ⌝ }
-    ensures { λ r. ⌜ (now (s .exit), r) ≡ insertEmpty (now (s .entry)) cap (key .0) value ⌝ }
+    ensures { λ r. ⌜ (now (s .exit), r) ≡ emptyInserted (now (s .entry)) cap (key .0) value ⌝ }
 {
     let p = kinds::prepare_empty(s, cap);
     apply(s, cap, p, key, value)
@@ -172,7 +172,7 @@ pub fn insert_manual(
     value: u64,
 ) -> Inserted
     requires { ⌜ Room (now s) cap ⌝ }
-    ensures { λ r. ⌜ (now (s .exit), r) ≡ insertManual (now (s .entry)) cap h side (key .0) value ⌝ }
+    ensures { λ r. ⌜ (now (s .exit), r) ≡ manualInserted (now (s .entry)) cap h side (key .0) value ⌝ }
 {
     let k = keys::stored_key(key);
     let p = kinds::prepare_manual(s, cap, h, side, k);

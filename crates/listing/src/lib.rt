@@ -15,7 +15,7 @@ use output::say;
 use queue::cursor::Cursor;
 use queue::cursor::Moved;
 use queue::looking;
-use remove::reading::Reading;
+use handle::Reading;
 
 // Lists at once on standard output.
 pub fn print(s: &[u64]) {

@@ -5,11 +5,11 @@ use mathlib.Core.List.{List}
 use borrow.Author.Tests.{lt-ltb, le-ltb, le-leb, lt-leb, eq-eqb, ne-eqb}
 use Rattle.arena.specs.Words.{field, put, LEFT, RIGHT, RANK, BACK}
 use Rattle.arena.specs.inner.Budget.{budget}
-use Rattle.tree.specs.inner.Links.{rankOf, sideOf, withBack, withNode, relinked, spreadWith}
+use Rattle.tree.specs.inner.Links.{rankOf, sideOfChild, withBack, withNode, relinked, spreadWith}
 use Rattle.tree.specs.declared.Climbed.{Climbed}
 use Rattle.tree.specs.declared.Climbed.the-variants.{Done, Up}
-use Rattle.lower.specs.inner.Turns.{turnOnce, turnTwiceWith, turnTwice}
-use Rattle.lower.specs.inner.Climb.{goUpTo, goUp, onward, lowerOne, lowerBoth, climbPastWith, climbPast, climbAtWith, climbAt, climbTurnWith, climbTurn}
+use Rattle.lower.specs.inner.Rotations.{turnOnce, turnTwiceWith, turnTwice}
+use Rattle.lower.specs.inner.Climb.{goUpTo, goUp, upward, lowerOne, loweredBoth, climbPastWith, climbPast, climbAtWith, climbAt, climbTurnWith, climbTurn}
 
 -- the writes of a rotation, one after another
 module _ (s : List ℕ) (cap d p0 p1 p2 s0 a b ra rank1 : ℕ) (x y z w : List ℕ) where
@@ -25,7 +25,7 @@ module _ (s : List ℕ) (cap d p0 p1 p2 s0 a b ra rank1 : ℕ) (x y z : List ℕ
   twice-steps e f g h i = rw (← e, ← f, ← g, ← h) i
 
 module _ (s : List ℕ) (cap p1 p2 : ℕ) (e : p2 ≡ field s cap p1 BACK) where
-  pub up-at : (d : ℕ) → p2 < cap → d ≡ sideOf s cap p2 p1 → Up p2 d ≡ goUp s cap p1
+  pub up-at : (d : ℕ) → p2 < cap → d ≡ sideOfChild s cap p2 p1 → Up p2 d ≡ goUp s cap p1
   unfolding goUp goUpTo
   up-at d h f = rw (← e, lt-ltb p2 cap h, ← f)
 
@@ -35,12 +35,12 @@ module _ (s : List ℕ) (cap p1 p2 : ℕ) (e : p2 ≡ field s cap p1 BACK) where
 
 pub lowered : (s : List ℕ) (cap p1 rank : ℕ) (x : List ℕ) (r : Climbed) → x ≡ put s cap p1 RANK rank → r ≡ goUp x cap p1
     → _≡_ {A = List ℕ × Climbed} (x, r) (lowerOne s cap p1 rank)
-unfolding lowerOne onward
+unfolding lowerOne upward
 lowered s cap p1 rank x r e f = rw (← e, ← f)
 
 pub lowered-both : (s : List ℕ) (cap p1 s0 rank0 : ℕ) (x : List ℕ) (r : List ℕ × Climbed) → x ≡ put s cap s0 RANK (rank0 + 1)
-    → r ≡ lowerOne x cap p1 (rank0 + 2) → r ≡ lowerBoth s cap p1 s0 rank0
-unfolding lowerBoth
+    → r ≡ lowerOne x cap p1 (rank0 + 2) → r ≡ loweredBoth s cap p1 s0 rank0
+unfolding loweredBoth
 lowered-both s cap p1 s0 rank0 x r e f = rw (← e) f
 
 pub past-reads : (s : List ℕ) (cap d p0 p1 s0 rank0 rank1 rs : ℕ) (x : List ℕ × Climbed) (a b ra rb p2 : ℕ)
@@ -50,7 +50,7 @@ unfolding climbPast
 past-reads s cap d p0 p1 s0 rank0 rank1 rs x a b ra rb p2 e f g h i q = rw (← e, ← f, ← g, ← h, ← i) q
 
 pub past-both : (s : List ℕ) (cap d p0 p1 s0 rank0 rank1 rs : ℕ) (x : List ℕ × Climbed) (a b ra rb p2 : ℕ) → ra < budget → rb < budget → (rb + 1 ≡ rs → ⊥) → ra + 2 ≡ rs
-    → x ≡ lowerBoth s cap p1 s0 rank0 → x ≡ climbPastWith s cap d p0 p1 s0 rank0 rank1 rs a b ra rb p2
+    → x ≡ loweredBoth s cap p1 s0 rank0 → x ≡ climbPastWith s cap d p0 p1 s0 rank0 rank1 rs a b ra rb p2
 unfolding climbPastWith
 past-both s cap d p0 p1 s0 rank0 rank1 rs x a b ra rb p2 la lb n h e =
     rw (lt-leb budget ra la, lt-leb budget rb lb, ne-eqb (rb + 1) rs n, eq-eqb (ra + 2) rs h) e

@@ -1,3 +1,3 @@
 pub mod ClimbReads
 pub mod ClimbLoop
-pub mod Laws
+pub mod LowerLeaves

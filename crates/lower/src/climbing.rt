@@ -6,7 +6,7 @@ ghost use Prim.Native.Nat.{_<_, _≤_};
 ghost use Rattle.arena.specs.Words.{Room};
 ghost use Rattle.arena.specs.inner.Budget.{budget};
 ghost use Rattle.tree.specs.inner.Climb.{Standing};
-ghost use Rattle.lower.specs.inner.Climb.{goUp, lowerOne, lowerBoth, climbPast, climbAt, climbTurn, climbFrom};
+ghost use Rattle.lower.specs.inner.Climb.{goUp, lowerOne, loweredBoth, climbPast, climbAt, climbTurn, lowerFrom};
 use crate::turns;
 use arena::words;
 use arena::words::BACK;
@@ -48,7 +48,7 @@ fn lower_both(s: &mut [u64], cap: u64, p1: u64, s0: u64, rank0: u64) -> Climbed
     requires { ⌜ p1 < cap ⌝ }
     requires { ⌜ s0 < cap ⌝ }
     requires { ⌜ rank0 < budget ⌝ }
-    ensures { λ r. ⌜ (now (s .exit), r) ≡ lowerBoth (now (s .entry)) cap p1 s0 rank0 ⌝ }
+    ensures { λ r. ⌜ (now (s .exit), r) ≡ loweredBoth (now (s .entry)) cap p1 s0 rank0 ⌝ }
     ensures { λ r. ⌜ Standing cap r ⌝ }
 {
     words::put(s, cap, s0, RANK, rank0 + 1);
@@ -158,7 +158,7 @@ pub fn climb(s: &mut [u64], cap: u64, start: u64, side: u64) -> bool
     requires { ⌜ Room (now s) cap ⌝ }
     requires { ⌜ start < cap ⌝ }
     requires { ⌜ side ≤ 1 ⌝ }
-    ensures { λ r. ⌜ (now (s .exit), r) ≡ climbFrom budget (now (s .entry)) cap start side ⌝ }
+    ensures { λ r. ⌜ (now (s .exit), r) ≡ lowerFrom budget (now (s .entry)) cap start side ⌝ }
 {
     let mut p1 = start;
     let mut d = side;

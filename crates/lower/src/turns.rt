@@ -5,7 +5,7 @@ ghost use mathlib.Core.Path.{_≡_};
 ghost use Prim.Native.Nat.{_<_, _≤_};
 ghost use Rattle.arena.specs.Words.{Room};
 ghost use Rattle.arena.specs.inner.Budget.{budget};
-ghost use Rattle.lower.specs.inner.Turns.{turnOnce, turnTwice};
+ghost use Rattle.lower.specs.inner.Rotations.{turnOnce, turnTwice};
 use arena::words;
 use arena::words::LEFT;
 use arena::words::RIGHT;

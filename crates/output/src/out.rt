@@ -1,7 +1,7 @@
 // Output: bytes are collected in a buffer, which is written out when it is full and at the end of the run.
 // `at` is how much of the buffer is in use; every function here is safe at any `at`.
 use crate::signs;
-use arena::entries::Entry;
+use handle::Entry;
 use handle::Key;
 use libc::STDERR_FILENO;
 use libc::STDOUT_FILENO;

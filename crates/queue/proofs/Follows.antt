@@ -11,12 +11,12 @@ use lib.ListN.{length}
 use Rattle.handle.specs.declared.Handle as H
 use Rattle.handle.specs.declared.Side as D
 use Rattle.arena.specs.Keys.{stored}
-use Rattle.arena.specs.Laying.{Good}
-use Rattle.arena.specs.declared.laying.LaidOut as L
-use Rattle.insert.specs.declared.place.Inserted as I
-use Rattle.insert.specs.declared.ahead.Ahead as A
-use Rattle.remove.specs.declared.removing.Removed as X
-use Rattle.remove.specs.declared.reading.Reading as R
+use Rattle.arena.specs.Laying.{GoodLayout}
+use Rattle.handle.specs.declared.LaidOut as L
+use Rattle.handle.specs.declared.Inserted as I
+use Rattle.handle.specs.declared.Ahead as A
+use Rattle.handle.specs.declared.Removed as X
+use Rattle.handle.specs.declared.Reading as R
 use Rattle.wavl.specs.Search.{path}
 use Rattle.wavl.specs.Tree.{left, right}
 use Rattle.rules.specs.Queue.{Queue, Live, Has, entries}
@@ -28,12 +28,12 @@ use Rattle.rules.proofs.Refusals.{normal-refused-1, normal-refused-only, empty-
 use Rattle.rules.proofs.History.{good-fact, not-good}
 use Rattle.rules.proofs.Unchanged.{insert-unchanged, remove-unchanged}
 use Rattle.rules.proofs.Looking.{search-path, search-bound, search-never}
-use Rattle.holds.specs.Handles.{plain}
-use Rattle.holds.specs.Holds.{Holds, SoundStore}
-use Rattle.holds.proofs.Parts.{sound-of}
-use Rattle.holds.proofs.SameStore.{same-store}
-use Rattle.placed.specs.Meaning.{insertedMeans, aheadMeans, sideMeans}
-use Rattle.taken.specs.Meaning.{removedMeans, readMeans}
+use Rattle.queue_of_store.specs.Handles.{plain}
+use Rattle.queue_of_store.specs.Holds.{Holds, SoundStore}
+use Rattle.queue_of_store.proofs.Parts.{sound-of}
+use Rattle.queue_of_store.proofs.SameStore.{same-store}
+use Rattle.insert_means.specs.Meaning.{insertedMeans, aheadMeans, sideMeans}
+use Rattle.remove_means.specs.Meaning.{removedMeans, readMeans}
 use Rattle.queue.specs.Promises.{enoughIn, Writes, Looks}
 use Rattle.queue.specs.Readings.{laidMeans, searchMeans, movedMeans}
 use Rattle.queue.specs.Promised.{LayOutPromise, InsertPromise, EmptyPromise, ManualPromise, RemovePromise, ReadPromise, SearchPromise, FirstPromise, LastPromise, AtPromise, BackPromise, ForwardPromise}
@@ -154,14 +154,14 @@ module _ {s : List ℕ} {q : Queue} (k : Holds s q) where
 
 -- Laying out, on every store, sound or not: 4 exactly where the layout is not good, and no other number
 module _ (s t : List ℕ) (capacity top : ℕ) (r : L.LaidOut) (w : LayOutPromise s t capacity top r) where
-  good-or-not : Good (length s) capacity top ⊎ (¬ Good (length s) capacity top)
+  good-or-not : GoodLayout (length s) capacity top ⊎ (¬ GoodLayout (length s) capacity top)
   good-or-not = go (Rules.good (enoughIn s) capacity top) refl
     where
-      go : (b : Bool) → Rules.good (enoughIn s) capacity top ≡ b → Good (length s) capacity top ⊎ (¬ Good (length s) capacity top)
+      go : (b : Bool) → Rules.good (enoughIn s) capacity top ≡ b → GoodLayout (length s) capacity top ⊎ (¬ GoodLayout (length s) capacity top)
       go true e = inl (good-one s capacity top .1 (good-fact (enoughIn s) capacity top e))
       go false e = inr (λ g. not-good (enoughIn s) capacity top e (good-one s capacity top .0 g))
 
-  pub layout-refused : (laidMeans r ≡ notLaid badLayout) ↔ (¬ Good (length s) capacity top)
+  pub layout-refused : (laidMeans r ≡ notLaid badLayout) ↔ (¬ GoodLayout (length s) capacity top)
   layout-refused = (λ e g. differ (sym (ap laidMeans (w .lays g .0)) ∙ e), λ n. ap laidMeans (w .refuses n .1))
     where
       differ : ¬ (laid ≡ notLaid badLayout)
@@ -170,6 +170,6 @@ module _ (s t : List ℕ) (capacity top : ℕ) (r : L.LaidOut) (w : LayOutPromis
   pub layout-refused-by : (n : ℕ) → laidMeans r ≡ notLaid n → n ≡ badLayout
   layout-refused-by n e = go good-or-not
     where
-      go : Good (length s) capacity top ⊎ (¬ Good (length s) capacity top) → n ≡ badLayout
+      go : GoodLayout (length s) capacity top ⊎ (¬ GoodLayout (length s) capacity top) → n ≡ badLayout
       go (inl g) = let f : laid ≡ notLaid n = sym (ap laidMeans (w .lays g .0)) ∙ e in absurd (let z : _≡_ {A = ℕ} 0 1 = cc in omega arith)
       go (inr m) = let f : notLaid badLayout ≡ notLaid n = sym (ap laidMeans (w .refuses m .1)) ∙ e in cc

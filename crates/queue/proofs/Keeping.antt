@@ -10,7 +10,7 @@ use Rattle.arena.specs.declared.header.Header.{Header}
 use Rattle.arena.specs.declared.header.Header.the-variants.{Passes, Fails}
 use Rattle.arena.proofs.Theorems.{passes, passing}
 use Rattle.rules.specs.Queue.{Queue}
-use Rattle.holds.specs.Holds.{Holds}
+use Rattle.queue_of_store.specs.Holds.{Holds}
 use Rattle.queue.specs.inner.Header.{onHeader}
 use Rattle.queue.specs.Promises.{Writes, Looks}
 use Rattle.queue.proofs.Looked.{on-held}

@@ -1,4 +1,4 @@
-pub mod Answers
+pub mod CallReads
 pub mod Looked
 pub mod Keeping
 pub mod Promising

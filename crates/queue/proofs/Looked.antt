@@ -14,20 +14,20 @@ use Rattle.arena.proofs.Theorems.{passes}
 use Rattle.chain.specs.inner.Steps.{stepFrom, endOf}
 use Rattle.chain.specs.declared.Stepped as C
 use Rattle.wavl.specs.Tree.{Side, left, right}
-use Rattle.wavl.specs.Search.{equalTo, nearest, emptyTree, answer, search}
+use Rattle.wavl.specs.Search.{equalTo, nearest, emptyTree, answerAt, search}
 use Rattle.wavl.specs.Search as Search
 use Rattle.rules.specs.Queue.{Queue}
 use Rattle.rules.specs.Place.{Spot, nowhere, spot, spotOf}
-use Rattle.rules.specs.Answers.{Found}
-use Rattle.rules.specs.Look.{searchFor, first, last, standSpot, standAt, stepSpot, stepTo}
-use Rattle.holds.specs.Ends.{number}
-use Rattle.holds.specs.Handles.{plain}
-use Rattle.holds.specs.inner.Meanings.{isSpot}
-use Rattle.holds.specs.Holds.{Holds}
-use Rattle.holds.specs.inner.Meanings.{inSlots, foundMeans, stepMeans}
-use Rattle.holds.proofs.Seeks.{seek-is, seek-means}
-use Rattle.holds.proofs.Chains.{first-means, last-means, step-means}
-use Rattle.holds.proofs.Live.{live-is, live-iff}
+use Rattle.rules.specs.Answers.{SearchAnswer}
+use Rattle.rules.specs.Look.{searchFor, standFirst, standLast, standSpot, standAt, stepSpot, stepTo}
+use Rattle.queue_of_store.specs.Ends.{number}
+use Rattle.queue_of_store.specs.Handles.{plain}
+use Rattle.queue_of_store.specs.inner.Meanings.{isSpot}
+use Rattle.queue_of_store.specs.Holds.{Holds}
+use Rattle.queue_of_store.specs.inner.Meanings.{inSlots, foundMeans, stepMeans}
+use Rattle.queue_of_store.proofs.Seeks.{seek-is, seek-means}
+use Rattle.queue_of_store.proofs.Chains.{first-means, last-means, step-means}
+use Rattle.queue_of_store.proofs.Live.{live-is, live-iff}
 use Rattle.queue.specs.inner.Header.{onHeader}
 use Rattle.queue.specs.inner.Looking.{handleAt, asSearched, searched, searchCall}
 use Rattle.queue.specs.inner.Moving.{movedTo, cursorAt, startCall, standIn, standCall, stepIn, stepCall}
@@ -56,14 +56,14 @@ module _ {s : List ℕ} {q : Queue} (k : Holds s q) where
   pub search-means : (key : ℤ) → searchMeans (searchCall s key) ≡ searchFor (stored key) q
   unfolding searchCall searched
   search-means key =
-      rw (on-held k (λ cap. searched s cap (stored key)) _, seek-is k (stored key), found-reads s (q .capacity) (answer (search (stored key) (q .tree))), ← seek-is k (stored key))
+      rw (on-held k (λ cap. searched s cap (stored key)) _, seek-is k (stored key), found-reads s (q .capacity) (answerAt (search (stored key) (q .tree))), ← seek-is k (stored key))
       (seek-means k (stored key))
 
-  pub first-is : movedMeans (startCall s 0) ≡ first q
+  pub first-is : movedMeans (startCall s 0) ≡ standFirst q
   unfolding startCall
   first-is = rw (on-held k (λ cap. movedTo (endOf s cap 0)) _) (step-reads (endOf s (q .capacity) 0) ∙ first-means k)
 
-  pub last-is : movedMeans (startCall s 1) ≡ last q
+  pub last-is : movedMeans (startCall s 1) ≡ standLast q
   unfolding startCall
   last-is = rw (on-held k (λ cap. movedTo (endOf s cap 1)) _) (step-reads (endOf s (q .capacity) 1) ∙ last-means k)
 

@@ -14,19 +14,19 @@ use Rattle.handle.specs.declared.Side.the-variants.{Less, Equal, Greater}
 use Rattle.handle.specs.declared.Refusal.{Refusal}
 use Rattle.handle.specs.declared.Refusal.the-variants.{NotWithinCapacity, FailedOrdRequirement, InvalidPtr, BadLayout, NotSound, BadTime}
 use Rattle.arena.specs.Keys.{stored, signed}
-use Rattle.arena.specs.declared.entries.Entry.{Entry}
-use Rattle.arena.specs.declared.laying.LaidOut as L
+use Rattle.handle.specs.declared.Entry.{Entry}
+use Rattle.handle.specs.declared.LaidOut as L
 use Rattle.arena.proofs.KeyLaws.{stored-undone}
-use Rattle.insert.specs.declared.place.Inserted as I
-use Rattle.insert.specs.declared.ahead.Ahead as A
-use Rattle.remove.specs.declared.removing.Removed as X
-use Rattle.remove.specs.declared.reading.Reading as R
+use Rattle.handle.specs.declared.Inserted as I
+use Rattle.handle.specs.declared.Ahead as A
+use Rattle.handle.specs.declared.Removed as X
+use Rattle.handle.specs.declared.Reading as R
 use Rattle.rules.specs.Queue.{Queue}
-use Rattle.holds.specs.Handles.{plain}
-use Rattle.holds.specs.Holds.{Holds}
-use Rattle.holds.proofs.SameStore.{same-store}
-use Rattle.placed.specs.Meaning.{insertedMeans, aheadMeans, sideMeans}
-use Rattle.taken.specs.Meaning.{removedMeans, readMeans}
+use Rattle.queue_of_store.specs.Handles.{plain}
+use Rattle.queue_of_store.specs.Holds.{Holds}
+use Rattle.queue_of_store.proofs.SameStore.{same-store}
+use Rattle.insert_means.specs.Meaning.{insertedMeans, aheadMeans, sideMeans}
+use Rattle.remove_means.specs.Meaning.{removedMeans, readMeans}
 use Rattle.queue.specs.Promises.{Meant}
 use Rattle.queue.specs.Readings.{laidMeans, searchMeans, movedMeans}
 use Rattle.queue.specs.declared.looking.Searched as S

@@ -12,30 +12,30 @@ use Rattle.handle.specs.declared.Side.{Side}
 use Rattle.handle.specs.declared.Refusal.the-variants.{BadLayout}
 use Rattle.arena.specs.Words.{need}
 use Rattle.arena.specs.Keys.{stored}
-use Rattle.arena.specs.Laying.{Good, Fresh}
-use Rattle.arena.specs.inner.Laying.{laid, layOut}
-use Rattle.arena.specs.declared.laying.LaidOut.{LaidOut}
-use Rattle.arena.specs.declared.laying.LaidOut.the-variants as L
+use Rattle.arena.specs.Laying.{GoodLayout, Fresh}
+use Rattle.arena.specs.inner.Laying.{laidWords, layOutWords}
+use Rattle.handle.specs.declared.LaidOut.{LaidOut}
+use Rattle.handle.specs.declared.LaidOut.the-variants as L
 use Rattle.arena.proofs.Theorems.{laid-is, lays-out, refuses}
 use Rattle.chain.specs.inner.Steps.{endOf}
 use Rattle.arena.specs.inner.Only.{Only}
 use Rattle.arena.proofs.Only.{only-weaken}
 use Rattle.insert.specs.inner.Place as I
 use Rattle.insert.specs.inner.Ahead as A
-use Rattle.insert.specs.declared.place.Inserted.{Inserted}
-use Rattle.insert.specs.declared.ahead.Ahead.{Ahead}
-use Rattle.insert.proofs.Laws.{insert-normal-within, insert-empty-within, insert-manual-within}
+use Rattle.handle.specs.declared.Inserted.{Inserted}
+use Rattle.handle.specs.declared.Ahead.{Ahead}
+use Rattle.insert.proofs.InsertLeaves.{insert-normal-within, insert-empty-within, insert-manual-within}
 use Rattle.remove.specs.inner.Remove.{removeBy, readBy}
-use Rattle.remove.specs.declared.removing.Removed.{Removed}
-use Rattle.remove.specs.declared.reading.Reading.{Reading}
-use Rattle.remove.proofs.Laws.{remove-kept}
+use Rattle.handle.specs.declared.Removed.{Removed}
+use Rattle.handle.specs.declared.Reading.{Reading}
+use Rattle.remove.proofs.RemoveLeaves.{remove-kept}
 use Rattle.rules.specs.Queue.{Queue, fresh}
 use Rattle.rules.specs.LayOut as Rules
 use Rattle.rules.proofs.History.{good-fact, not-good, lay-done, lay-refused}
-use Rattle.holds.specs.Holds.{Holds}
-use Rattle.holds.proofs.FreshQueue.{fresh-holds}
-use Rattle.placed.proofs.Theorems.{normal-means, normal-ahead, empty-means, empty-ahead, manual-means, manual-ahead}
-use Rattle.taken.proofs.Means.{remove-means, read-means}
+use Rattle.queue_of_store.specs.Holds.{Holds}
+use Rattle.queue_of_store.proofs.FreshQueue.{fresh-holds}
+use Rattle.insert_means.proofs.Theorems.{normal-means, normal-ahead, empty-means, empty-ahead, manual-means, manual-ahead}
+use Rattle.remove_means.proofs.Means.{remove-means, read-means}
 use Rattle.queue.specs.Promises.{enoughIn}
 use Rattle.queue.specs.Readings.{laidMeans}
 use Rattle.queue.specs.Promised.{LayOutPromise, InsertPromise, EmptyPromise, ManualPromise, AheadPromise, AheadEmptyPromise, AheadManualPromise, RemovePromise, ReadPromise, SearchPromise, FirstPromise, LastPromise, AtPromise, BackPromise, ForwardPromise}
@@ -99,19 +99,19 @@ module _ (s t : List ℕ) (r : Inserted) (key : ℤ) (value : ℕ) where
   pub insert-writes : (t, r) ≡ insertCall s key value → InsertPromise s t key value r
   unfolding insertCall
   insert-writes e =
-      writes _ s (λ cap. I.insertNormal s cap key value) _ _ (λ cap p. kept (insert-normal-within s cap key value))
+      writes _ s (λ cap. I.normalInserted s cap key value) _ _ (λ cap p. kept (insert-normal-within s cap key value))
       (λ q k. let m = normal-means k key value in (m .answer, m .holds)) t r e
 
   pub empty-writes : (t, r) ≡ emptyCall s key value → EmptyPromise s t key value r
   unfolding emptyCall
   empty-writes e =
-      writes _ s (λ cap. I.insertEmpty s cap key value) _ _ (λ cap p. kept (insert-empty-within s cap key value))
+      writes _ s (λ cap. I.emptyInserted s cap key value) _ _ (λ cap p. kept (insert-empty-within s cap key value))
       (λ q k. let m = empty-means k key value in (m .answer, m .holds)) t r e
 
   pub manual-writes : (h : Handle) (side : Side) → (t, r) ≡ manualCall s h side key value → ManualPromise s t h side key value r
   unfolding manualCall
   manual-writes h side e =
-      writes _ s (λ cap. I.insertManual s cap h side key value) _ _ (λ cap p. kept (insert-manual-within s cap key value h side))
+      writes _ s (λ cap. I.manualInserted s cap h side key value) _ _ (λ cap p. kept (insert-manual-within s cap key value h side))
       (λ q k. let m = manual-means k key h side value in (m .answer, m .holds)) t r e
 
 pub remove-writes : (s t : List ℕ) (r : Removed) (h : Handle) → (t, r) ≡ removeCall s h → RemovePromise s t h r
@@ -121,20 +121,20 @@ remove-writes s t r h e =
     (λ q k. let m = remove-means k h in (m .answer, m .holds)) t r e
 
 -- laying out: the store's good layouts are document 01's
-pub good-one : (s : List ℕ) (cap top : ℕ) → Good (length s) cap top ↔ Rules.Good (enoughIn s) cap top
+pub good-one : (s : List ℕ) (cap top : ℕ) → GoodLayout (length s) cap top ↔ Rules.Good (enoughIn s) cap top
 good-one s cap top = (
   λ g. record { range = g .range; long = le-leb (need cap) (length s) (g .room) },
   λ g. record { range = g .range; room = leb-true (need cap) (length s) (g .long) },
 )
 
-module _ (s t : List ℕ) (r : LaidOut) (cap top : ℕ) (e : (t, r) ≡ layOut s cap top) where
-  laid-out : Good (length s) cap top → (r ≡ L.Done) × Fresh s t cap top × Holds t (fresh cap top)
+module _ (s t : List ℕ) (r : LaidOut) (cap top : ℕ) (e : (t, r) ≡ layOutWords s cap top) where
+  laid-out : GoodLayout (length s) cap top → (r ≡ L.Done) × Fresh s t cap top × Holds t (fresh cap top)
   laid-out g =
-      let u : _≡_ {A = List ℕ × LaidOut} (t, r) (laid s cap top, L.Done) = e ∙ lays-out s cap top g in
+      let u : _≡_ {A = List ℕ × LaidOut} (t, r) (laidWords s cap top, L.Done) = e ∙ lays-out s cap top g in
       let f : Fresh s t cap top = subst⁻¹ (λ (x : List ℕ). Fresh s x cap top) (ap (λ x. x .0) u) (laid-is s cap top (g .room)) in
       (ap (λ x. x .1) u, f, fresh-holds s t cap top f g)
 
-  not-laid : ¬ Good (length s) cap top → (t ≡ s) × (r ≡ L.Refused BadLayout)
+  not-laid : ¬ GoodLayout (length s) cap top → (t ≡ s) × (r ≡ L.Refused BadLayout)
   not-laid n = let u = e ∙ refuses s cap top n in (ap (λ x. x .0) u, ap (λ x. x .1) u)
 
   laid-means : (b : Bool) → Rules.good (enoughIn s) cap top ≡ b → (q : Queue) → Holds s q

@@ -3,7 +3,7 @@
 use Prim.Native.Nat.{ℕ}
 use mathlib.Core.Path.{_≡_, sym, _∙_}
 use mathlib.Core.List.{List}
-use Rattle.arena.specs.declared.laying.LaidOut.{LaidOut}
+use Rattle.handle.specs.declared.LaidOut.{LaidOut}
 use Rattle.rules.specs.Queue.{Queue}
 use Rattle.queue.specs.Promises.{Writes, Looks}
 use Rattle.queue.specs.Promised.{LayOutPromise}

@@ -8,28 +8,28 @@ use Rattle.handle.specs.declared.Handle.{Handle}
 use Rattle.handle.specs.declared.Side.{Side}
 use Rattle.handle.specs.declared.Refusal.the-variants.{NotSound, BadLayout}
 use Rattle.arena.specs.Keys.{stored}
-use Rattle.arena.specs.Laying.{Good, Fresh}
-use Rattle.arena.specs.inner.Laying.{layOut}
-use Rattle.arena.specs.declared.laying.LaidOut.{LaidOut}
-use Rattle.arena.specs.declared.laying.LaidOut.the-variants as L
-use Rattle.insert.specs.declared.place.Inserted.{Inserted}
-use Rattle.insert.specs.declared.place.Inserted.the-variants as I
-use Rattle.insert.specs.declared.ahead.Ahead.{Ahead}
-use Rattle.insert.specs.declared.ahead.Ahead.the-variants as A
-use Rattle.remove.specs.declared.removing.Removed.{Removed}
-use Rattle.remove.specs.declared.removing.Removed.the-variants as X
-use Rattle.remove.specs.declared.reading.Reading.{Reading}
-use Rattle.remove.specs.declared.reading.Reading.the-variants as R
+use Rattle.arena.specs.Laying.{GoodLayout, Fresh}
+use Rattle.arena.specs.inner.Laying.{layOutWords}
+use Rattle.handle.specs.declared.LaidOut.{LaidOut}
+use Rattle.handle.specs.declared.LaidOut.the-variants as L
+use Rattle.handle.specs.declared.Inserted.{Inserted}
+use Rattle.handle.specs.declared.Inserted.the-variants as I
+use Rattle.handle.specs.declared.Ahead.{Ahead}
+use Rattle.handle.specs.declared.Ahead.the-variants as A
+use Rattle.handle.specs.declared.Removed.{Removed}
+use Rattle.handle.specs.declared.Removed.the-variants as X
+use Rattle.handle.specs.declared.Reading.{Reading}
+use Rattle.handle.specs.declared.Reading.the-variants as R
 use Rattle.wavl.specs.Tree.{left, right}
 use Rattle.rules.specs.Queue.{Queue, fresh}
 use Rattle.rules.specs.LayOut as Rules
 use Rattle.rules.specs.Insert.{insertNormal, insertEmpty, insertManual, normal, onEmpty, manual, foresee}
 use Rattle.rules.specs.Remove.{remove}
-use Rattle.rules.specs.Look.{read, searchFor, first, last, standAt, stepTo}
-use Rattle.holds.specs.Handles.{plain}
-use Rattle.holds.specs.Holds.{Holds}
-use Rattle.placed.specs.Meaning.{insertedMeans, aheadMeans, sideMeans}
-use Rattle.taken.specs.Meaning.{removedMeans, readMeans}
+use Rattle.rules.specs.Look.{read, searchFor, standFirst, standLast, standAt, stepTo}
+use Rattle.queue_of_store.specs.Handles.{plain}
+use Rattle.queue_of_store.specs.Holds.{Holds}
+use Rattle.insert_means.specs.Meaning.{insertedMeans, aheadMeans, sideMeans}
+use Rattle.remove_means.specs.Meaning.{removedMeans, readMeans}
 use Rattle.queue.specs.Promises.{enoughIn, Writes, Looks}
 use Rattle.queue.specs.Readings.{laidMeans, searchMeans, movedMeans}
 use Rattle.queue.specs.inner.Placing.{insertCall, emptyCall, manualCall, aheadCall, aheadEmptyCall, aheadManualCall}
@@ -44,9 +44,9 @@ use Rattle.queue.specs.declared.cursor.Moved.the-variants as M
 -- Laying out, on every store: "BadLayout: laying out with capacity or top generation out of range, or a store too short", and then
 -- nothing changes; else the store holds the fresh queue, and `Fresh` says every word of it.
 pub record LayOutPromise (s t : List ℕ) (capacity top : ℕ) (r : LaidOut) : Type 0 where
-  pub does : (t, r) ≡ layOut s capacity top
-  pub lays : Good (length s) capacity top → (r ≡ L.Done) × Fresh s t capacity top × Holds t (fresh capacity top)
-  pub refuses : ¬ Good (length s) capacity top → (t ≡ s) × (r ≡ L.Refused BadLayout)
+  pub does : (t, r) ≡ layOutWords s capacity top
+  pub lays : GoodLayout (length s) capacity top → (r ≡ L.Done) × Fresh s t capacity top × Holds t (fresh capacity top)
+  pub refuses : ¬ GoodLayout (length s) capacity top → (t ≡ s) × (r ≡ L.Refused BadLayout)
   -- on a store that holds a queue: document 01's answer and queue, as of every other call
   pub means : (q : Queue) → Holds s q
       → (laidMeans r ≡ Rules.layOut (enoughIn s) capacity top q .0) × Holds t (Rules.layOut (enoughIn s) capacity top q .1)
@@ -82,10 +82,10 @@ abbrev pub SearchPromise : List ℕ → ℤ → Searched → Type 0
 SearchPromise s key r = Looks (S.Refused NotSound) (searchCall s key) searchMeans (searchFor (stored key)) s r
 
 abbrev pub FirstPromise : List ℕ → Moved → Type 0
-FirstPromise s r = Looks (M.Refused NotSound) (startCall s 0) movedMeans first s r
+FirstPromise s r = Looks (M.Refused NotSound) (startCall s 0) movedMeans standFirst s r
 
 abbrev pub LastPromise : List ℕ → Moved → Type 0
-LastPromise s r = Looks (M.Refused NotSound) (startCall s 1) movedMeans last s r
+LastPromise s r = Looks (M.Refused NotSound) (startCall s 1) movedMeans standLast s r
 
 abbrev pub AtPromise : List ℕ → Handle → Moved → Type 0
 AtPromise s h r = Looks (M.Refused NotSound) (standCall s h) movedMeans (standAt (plain h)) s r

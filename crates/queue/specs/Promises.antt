@@ -11,7 +11,7 @@ use Rattle.arena.specs.Words.{need}
 use Rattle.arena.specs.Header.{headerOf, Passing}
 use Rattle.arena.specs.declared.header.Header.the-variants.{Fails}
 use Rattle.rules.specs.Queue.{Queue}
-use Rattle.holds.specs.Holds.{Holds}
+use Rattle.queue_of_store.specs.Holds.{Holds}
 
 -- whether a store is long enough for a capacity
 abbrev pub enoughIn : List ℕ → ℕ → Bool

@@ -18,7 +18,7 @@ use handle::Refusal;
 use handle::Side;
 use handle::Slot;
 use remove::reading;
-use remove::reading::Reading;
+use handle::Reading;
 
 // What a search answers: the entry with an equal key, or the last one looked at and the side of it on which the key lies. The
 // number is how many entries were looked at.

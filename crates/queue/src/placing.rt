@@ -4,15 +4,15 @@ ghost use Rattle.queue.specs.Promised.{LayOutPromise, InsertPromise, Emp
 use arena::header;
 use arena::header::Header;
 use arena::laying;
-use arena::laying::LaidOut;
+use handle::LaidOut;
 use handle::Handle;
 use handle::Key;
 use handle::Refusal;
 use handle::Side;
 use insert::ahead;
-use insert::ahead::Ahead;
+use handle::Ahead;
 use insert::place;
-use insert::place::Inserted;
+use handle::Inserted;
 
 // Makes an empty queue of a lent store, whatever it held.
 pub fn lay_out(s: &mut [u64], capacity: u64, top: u64) -> LaidOut

@@ -6,7 +6,7 @@ use arena::header::Header;
 use handle::Handle;
 use handle::Refusal;
 use remove::removing;
-use remove::removing::Removed;
+use handle::Removed;
 
 // Takes out the entry that h names.
 pub fn remove(s: &mut [u64], h: Handle) -> Removed

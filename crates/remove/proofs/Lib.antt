@@ -1,4 +1,4 @@
 pub mod LiftReads
 pub mod TakeReads
 pub mod RemoveReads
-pub mod Laws
+pub mod RemoveLeaves

@@ -9,7 +9,7 @@ use Rattle.handle.specs.declared.Handle.{Handle}
 use Rattle.handle.specs.declared.Refusal as R
 use Rattle.arena.specs.inner.Entries.{isLive, entryOf}
 use Rattle.arena.specs.inner.Slots.{freeSlot}
-use Rattle.arena.specs.declared.entries.Entry.{Entry}
+use Rattle.handle.specs.declared.Entry.{Entry}
 use Rattle.arena.specs.declared.slots.Freed.{Freed}
 use Rattle.arena.specs.declared.slots.Freed as F
 use Rattle.arena.proofs.Paths.{no-refusal, tested}
@@ -17,9 +17,9 @@ use Rattle.chain.specs.inner.Links.{unlinkSlot}
 use Rattle.chain.specs.declared.Neighbours.{Neighbours}
 use Rattle.remove.specs.inner.Take.{takeOut}
 use Rattle.remove.specs.inner.Remove.{letGo, removeLive, readBy}
-use Rattle.remove.specs.declared.removing.Removed.{Removed}
-use Rattle.remove.specs.declared.removing.Removed as D
-use Rattle.remove.specs.declared.reading.Reading as Q
+use Rattle.handle.specs.declared.Removed.{Removed}
+use Rattle.handle.specs.declared.Removed as D
+use Rattle.handle.specs.declared.Reading as Q
 
 -- a live handle's slot lies in the store
 pub live-low : (s : List ℕ) (cap : ℕ) (h : Handle) (t : Bool) → t ≡ isLive s cap h → t ≡ true → h .slot .0 < cap

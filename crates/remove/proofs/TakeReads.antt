@@ -10,8 +10,8 @@ use Rattle.arena.specs.Words.{field, LEFT, RIGHT}
 use Rattle.arena.specs.inner.Budget.{budget}
 use Rattle.tree.specs.declared.Climbed.{Climbed}
 use Rattle.tree.specs.declared.Climbed.the-variants.{Done, Up, NotSound}
-use Rattle.lower.specs.inner.Climb.{lowerOne, climbFrom}
-use Rattle.remove.specs.inner.Lift.{liftOut, replaced}
+use Rattle.lower.specs.inner.Climb.{lowerOne, lowerFrom}
+use Rattle.remove.specs.inner.Lift.{liftOut, nodeReplaced}
 use Rattle.remove.specs.inner.Take.{isChildless, settleBare, settleAt, replacementOf, filledFrom, filledBy, closedFrom, takeOver, takeOut}
 use Rattle.remove.specs.declared.lifting.Lifted.{Lifted}
 
@@ -22,7 +22,7 @@ childless-asks s cap i l r t e h f q = rw (← e, ← f, eq-eqb l noSlot h) q
 
 -- by the step up from a node left childless
 module _ (s : List ℕ) (cap q : ℕ) (x : List ℕ) (a : Climbed) (at : _≡_ {A = List ℕ × Climbed} (x, a) (lowerOne s cap q 1)) where
-  pub bare-up : (p d : ℕ) (r : List ℕ × Bool) → a ≡ Up p d → r ≡ climbFrom budget x cap p d → r ≡ settleBare s cap q
+  pub bare-up : (p d : ℕ) (r : List ℕ × Bool) → a ≡ Up p d → r ≡ lowerFrom budget x cap p d → r ≡ settleBare s cap q
   unfolding settleBare
   bare-up p d r e f = rw (← at, e) f
 
@@ -35,7 +35,7 @@ module _ (s : List ℕ) (cap q : ℕ) (x : List ℕ) (a : Climbed) (at : _≡_ {
   bare-refused e = rw (← at, e)
 
 -- m was lifted out and has taken i's place
-module _ (s : List ℕ) (cap i m : ℕ) (x : List ℕ) (l : Lifted) (at : _≡_ {A = List ℕ × Lifted} (x, l) (liftOut s cap m)) (y : List ℕ) (f : y ≡ replaced x cap i m) (r : List ℕ × Bool) where
+module _ (s : List ℕ) (cap i m : ℕ) (x : List ℕ) (l : Lifted) (at : _≡_ {A = List ℕ × Lifted} (x, l) (liftOut s cap m)) (y : List ℕ) (f : y ≡ nodeReplaced x cap i m) (r : List ℕ × Bool) where
   pub fill-under : l .under ≡ i → r ≡ settleAt y cap m (l .side) → r ≡ filledBy s cap i m
   unfolding filledBy filledFrom
   fill-under e q = rw (← at, ← f, eq-eqb (l .under) i e) q

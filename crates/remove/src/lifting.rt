@@ -4,7 +4,7 @@
 ghost use mathlib.Core.Path.{_≡_};
 ghost use Prim.Native.Nat.{_<_, _≤_};
 ghost use Rattle.arena.specs.Words.{Room};
-ghost use Rattle.remove.specs.inner.Lift.{onlyChild, sideUnder, liftOut, standing, replaced};
+ghost use Rattle.remove.specs.inner.Lift.{onlyChild, sideUnder, liftOut, standsIn, nodeReplaced};
 use arena::words;
 use arena::words::BACK;
 use arena::words::LEFT;
@@ -62,7 +62,7 @@ pub fn lift(s: &mut [u64], cap: u64, m: u64) -> Lifted
 fn stand(s: &mut [u64], cap: u64, i: u64, m: u64, l: u64, r: u64, b: u64, k: u64)
     requires { ⌜ Room (now s) cap ⌝ }
     requires { ⌜ m < cap ⌝ }
-    ensures { λ _. ⌜ now (s .exit) ≡ standing (now (s .entry)) cap i m l r b k ⌝ }
+    ensures { λ _. ⌜ now (s .exit) ≡ standsIn (now (s .entry)) cap i m l r b k ⌝ }
 {
     tree::put_node(s, cap, 0, m, b, l, r, k);
     tree::put_back(s, cap, l, m);
@@ -75,7 +75,7 @@ pub fn replace(s: &mut [u64], cap: u64, i: u64, m: u64)
     requires { ⌜ Room (now s) cap ⌝ }
     requires { ⌜ i < cap ⌝ }
     requires { ⌜ m < cap ⌝ }
-    ensures { λ _. ⌜ now (s .exit) ≡ replaced (now (s .entry)) cap i m ⌝ }
+    ensures { λ _. ⌜ now (s .exit) ≡ nodeReplaced (now (s .entry)) cap i m ⌝ }
 {
     let l = words::field(s, cap, i, LEFT);
     let r = words::field(s, cap, i, RIGHT);

@@ -4,7 +4,7 @@ ghost use mathlib.Core.Path.{_≡_};
 ghost use Rattle.arena.specs.Words.{Room};
 ghost use Rattle.remove.specs.inner.Remove.{readBy};
 use arena::entries;
-use arena::entries::Entry;
+use handle::Entry;
 use handle::Handle;
 use handle::Refusal;
 

@@ -7,7 +7,7 @@ ghost use Rattle.arena.specs.Words.{Room};
 ghost use Rattle.remove.specs.inner.Remove.{letGo, removeLive, removeBy};
 use crate::taking;
 use arena::entries;
-use arena::entries::Entry;
+use handle::Entry;
 use arena::slots;
 use arena::slots::Freed;
 use handle::Handle;

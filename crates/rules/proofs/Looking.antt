@@ -19,10 +19,10 @@ use Rattle.wavl.proofs.Size.{size-length}
 use Rattle.wavl.proofs.Found.{looked-path, looked-bound, looked-tight}
 use Rattle.wavl.proofs.Reply.{Answers, answer-right}
 use Rattle.rules.specs.Queue.{Handle, handle, handleOf, Queue, entries, Has}
-use Rattle.rules.specs.Answers.{noNote, generationOverflow, removed, reads, Found, equalAt, beside, noEntry, notFound, stands, ends}
+use Rattle.rules.specs.Answers.{noNote, generationOverflow, removed, reads, SearchAnswer, equalAt, beside, noEntry, notFound, stands, atEnd}
 use Rattle.rules.specs.Place.{Spot, nowhere, spot, spotOf}
 use Rattle.rules.specs.Remove.{freed, noteOf, freeAfter, removeSpot, remove}
-use Rattle.rules.specs.Look.{readSpot, read, foundIn, searchFor, standsAt, first, last, stepSpot, stepTo, next, prev}
+use Rattle.rules.specs.Look.{readSpot, read, foundIn, searchFor, standsAt, standFirst, standLast, stepSpot, stepTo, next, prev}
 use Rattle.rules.specs.Sound.{Sound}
 use Rattle.rules.specs.Table.{Target, NoEntries, SearchAnswers, countOf}
 use Rattle.rules.proofs.Places.{SpotIs}
@@ -132,7 +132,7 @@ module _ (q : Queue) (s : Sound q) (a : List Entry) (x : Entry) (b : List Entry)
   unfolding own standsAt Lists.first
   next-stands y e = next-is (handleOf x) q s (own q a x (y ∷ b) e)
 
-  pub next-ends : entries q ≡ a ++ (x ∷ []) → next (handleOf x) q ≡ ends
+  pub next-ends : entries q ≡ a ++ (x ∷ []) → next (handleOf x) q ≡ atEnd
   unfolding own standsAt Lists.first
   next-ends e = next-is (handleOf x) q s (own q a x [] e)
 
@@ -140,26 +140,26 @@ module _ (q : Queue) (s : Sound q) (a : List Entry) (x : Entry) (b : List Entry)
   unfolding own standsAt
   prev-stands y e = prev-is (handleOf x) q s (own q (a ++ (y ∷ [])) x b e) ∙ ap standsAt (last-of a y)
 
-  pub prev-ends : entries q ≡ x ∷ b → prev (handleOf x) q ≡ ends
+  pub prev-ends : entries q ≡ x ∷ b → prev (handleOf x) q ≡ atEnd
   unfolding own standsAt Lists.last
   prev-ends e = prev-is (handleOf x) q s (own q [] x b e)
 
--- first and last, on any queue
+-- standFirst and standLast, on any queue
 module _ (q : Queue) (a : List Entry) (x : Entry) where
-  pub first-stands : entries q ≡ x ∷ a → first q ≡ stands (handleOf x)
-  unfolding first standsAt Lists.first
+  pub first-stands : entries q ≡ x ∷ a → standFirst q ≡ stands (handleOf x)
+  unfolding standFirst standsAt Lists.first
   first-stands e = rw e
 
-  pub last-stands : entries q ≡ a ++ (x ∷ []) → last q ≡ stands (handleOf x)
-  unfolding last standsAt
+  pub last-stands : entries q ≡ a ++ (x ∷ []) → standLast q ≡ stands (handleOf x)
+  unfolding standLast standsAt
   last-stands e = rw e (ap standsAt (last-of a x))
 
-pub first-ends : (q : Queue) → NoEntries q → first q ≡ ends
-unfolding first standsAt Lists.first
+pub first-ends : (q : Queue) → NoEntries q → standFirst q ≡ atEnd
+unfolding standFirst standsAt Lists.first
 first-ends q e = rw e
 
-pub last-ends : (q : Queue) → NoEntries q → last q ≡ ends
-unfolding last standsAt Lists.last
+pub last-ends : (q : Queue) → NoEntries q → standLast q ≡ atEnd
+unfolding standLast standsAt Lists.last
 last-ends q e = rw e
 
 -- Search
@@ -175,26 +175,26 @@ module _ (key : ℕ) (q : Queue) (s : Sound q) where
 
   pub search-answers : SearchAnswers key q (searchFor key q)
   unfolding searchFor
-  search-answers = search-told (Search.answer (search key (q .tree))) (answer-right key (q .tree) (s .rising))
+  search-answers = search-told (Search.answerAt (search key (q .tree))) (answer-right key (q .tree) (s .rising))
 
   -- Equal exactly when an entry has the key
-  search-there : (a : Found) → SearchAnswers key q a → Has key q → (h : Handle) × (n : ℕ) × (a ≡ equalAt h n)
+  search-there : (a : SearchAnswer) → SearchAnswers key q a → Has key q → (h : Handle) × (n : ℕ) × (a ≡ equalAt h n)
   search-there (equalAt h n) f g = (h, n, refl)
   search-there (beside h d n) f g = absurd (f .0 g)
   search-there (noEntry n) f g = absurd (rw (f .1) at (g .1))
 
   pub search-never : (n : ℕ) → ¬ (searchFor key q ≡ notFound n)
-  search-never n e = subst (λ (a : Found). SearchAnswers key q a) e search-answers
+  search-never n e = subst (λ (a : SearchAnswer). SearchAnswers key q a) e search-answers
 
   pub search-finds : ((h : Handle) × (n : ℕ) × (searchFor key q ≡ equalAt h n)) ↔ Has key q
   search-finds = (
-    λ e. let f = subst (λ (a : Found). SearchAnswers key q a) (e .2) search-answers in (f .0, f .1, f .3),
+    λ e. let f = subst (λ (a : SearchAnswer). SearchAnswers key q a) (e .2) search-answers in (f .0, f .1, f .3),
     search-there (searchFor key q) search-answers,
   )
 
 -- the count is the length of the path, on any queue
-count-is : (w : Place) → countOf (foundIn (Search.answer w)) ≡ looked w
-unfolding foundIn Search.answer looked
+count-is : (w : Place) → countOf (foundIn (Search.answerAt w)) ≡ looked w
+unfolding foundIn Search.answerAt looked
 count-is (place tip []) = refl
 count-is (place tip (step d x r t ∷ p)) = refl
 count-is (place (fork a x r b) p) = refl

@@ -7,10 +7,10 @@ use Prim.Native.Nat.{ℕ}
 use native.Mathlib.Omega.{arith}
 use Rattle.wavl.specs.Tree.{Side}
 use Rattle.rules.specs.Queue.{Handle, Queue, Has, Live}
-use Rattle.rules.specs.Answers.{Where, Inserted, new, replacing, notInserted, wouldRefuse, Removed, removed, notRemoved, Read, reads, notRead, Stepped, stands, ends, notStepped, notWithinCapacity, failedOrdRequirement, invalidPtr}
+use Rattle.rules.specs.Answers.{Where, Inserted, new, replacing, notInserted, wouldRefuse, Removed, removed, notRemoved, Read, reads, notRead, Stepped, stands, atEnd, notStepped, notWithinCapacity, failedOrdRequirement, invalidPtr}
 use Rattle.rules.specs.Insert.{insertNormal, insertEmpty, insertManual, Kind, insert, ahead, foresee}
 use Rattle.rules.specs.Remove.{remove}
-use Rattle.rules.specs.Look.{read, first, last, standAt, stepTo}
+use Rattle.rules.specs.Look.{read, standFirst, standLast, standAt, stepTo}
 use Rattle.rules.specs.Sound.{Sound}
 use Rattle.rules.specs.Table.{NoSlot, NextFree, NormalAnswers, NoEntries, EmptyAnswers, ManualFits, Adding, ManualAnswers, RemoveAnswers, ReadAnswers, FirstAnswers, LastAnswers, StandAnswers, StepAnswers}
 use Rattle.rules.proofs.Told.{normal-answers, empty-answers, manual-answers, remove-answers, read-answers, first-answers, last-answers, stand-answers, step-answers, target-live}
@@ -157,7 +157,7 @@ module _ (h : Handle) (q : Queue) (s : Sound q) where
 
   step-three : (d : Side) (a : Stepped) → StepAnswers d h q a → ¬ Live h q → a ≡ notStepped invalidPtr
   step-three d (stands g) f l = absurd (l (target-live h q s (f .0)))
-  step-three d ends f l = absurd (l (target-live h q s (f .0)))
+  step-three d atEnd f l = absurd (l (target-live h q s (f .0)))
   step-three d (notStepped n) f l = ap notStepped (f .0)
 
   pub step-refused-3 : (d : Side) → (stepTo d h q ≡ notStepped invalidPtr) ↔ (¬ Live h q)
@@ -170,7 +170,7 @@ module _ (h : Handle) (q : Queue) (s : Sound q) where
   -- standing at a handle
   stand-three : (a : Stepped) → StandAnswers h q a → ¬ Live h q → a ≡ notStepped invalidPtr
   stand-three (stands g) f l = absurd (l (f .1))
-  stand-three ends f l = absurd f
+  stand-three atEnd f l = absurd f
   stand-three (notStepped n) f l = ap notStepped (f .0)
 
   pub stand-refused-3 : (standAt h q ≡ notStepped invalidPtr) ↔ (¬ Live h q)
@@ -181,10 +181,10 @@ module _ (h : Handle) (q : Queue) (s : Sound q) where
   stand-refused-only n e = subst (λ (a : Stepped). StandAnswers h q a) e (stand-answers h q s) .0
 
 -- "An absent key, an empty queue and the end of the chain are answers, no refusals."
-pub first-never : (q : Queue) (n : ℕ) → ¬ (first q ≡ notStepped n)
+pub first-never : (q : Queue) (n : ℕ) → ¬ (standFirst q ≡ notStepped n)
 first-never q n e = subst (λ (a : Stepped). FirstAnswers q a) e (first-answers q)
 
-pub last-never : (q : Queue) (n : ℕ) → ¬ (last q ≡ notStepped n)
+pub last-never : (q : Queue) (n : ℕ) → ¬ (standLast q ≡ notStepped n)
 last-never q n e = subst (λ (a : Stepped). LastAnswers q a) e (last-answers q)
 
 -- the look-ahead foretells the refusal that the same insertion would get, and no other

@@ -12,8 +12,8 @@ use Rattle.wavl.specs.Entry.{Entry}
 use Rattle.wavl.specs.Tree.{Side, left, right}
 use Rattle.wavl.proofs.Lists.{last-of}
 use Rattle.wavl.proofs.Strict.{rising-unique}
-use Rattle.rules.specs.Queue.{Handle, handleOf, Queue, entries, Holds, Names}
-use Rattle.rules.specs.Answers.{Where, less, equal, greater, Laid, laid, notLaid, Ahead, wouldAdd, wouldReplace, wouldRefuse, Inserted, new, replacing, notInserted, Note, noNote, generationOverflow, Removed, removed, notRemoved, Read, reads, notRead, Found, equalAt, beside, noEntry, notFound, Stepped, stands, ends, notStepped}
+use Rattle.rules.specs.Queue.{Handle, handleOf, Queue, entries, HasEntry, Names}
+use Rattle.rules.specs.Answers.{Where, less, equal, greater, Laid, laid, notLaid, Ahead, wouldAdd, wouldReplace, wouldRefuse, Inserted, new, replacing, notInserted, Note, noNote, generationOverflow, Removed, removed, notRemoved, Read, reads, notRead, SearchAnswer, equalAt, beside, noEntry, notFound, Stepped, stands, atEnd, notStepped}
 use Rattle.rules.specs.Insert.{Kind, normal, onEmpty, manual, ahead}
 use Rattle.rules.specs.Look.{standsAt}
 use Rattle.rules.specs.Sound.{Sound}
@@ -33,7 +33,7 @@ next-unique q f k = head-eq-of-cons-eq (sym (f .1) ∙ k .1)
 
 -- one handle names one entry, and so one key and one value
 module _ (h : Handle) (q : Queue) (s : Sound q) where
-  pub one-entry : (x y : Entry) → Holds q x → Holds q y → Names h x → Names h y → x ≡ y
+  pub one-entry : (x y : Entry) → HasEntry q x → HasEntry q y → Names h x → Names h y → x ≡ y
   one-entry x y i j m n = slot-unique (entries q) (live-once s) x y i j (m .0 ∙ sym (n .0))
 
 -- Normal
@@ -127,8 +127,8 @@ end-is : (d : Side) (l : List Entry) (o : Stepped) → EndIs d l o → o ≡ sta
 unfolding standsAt last first
 end-is left l (stands g) f = ap stands (f .3) ∙ ap standsAt (sym (last-of (f .0) (f .1))) ∙ ap (λ m. standsAt (last m)) (sym (f .2))
 end-is right l (stands g) f = ap stands (f .3) ∙ ap (λ m. standsAt (first m)) (sym (f .2))
-end-is left l ends f = ap (λ m. standsAt (last m)) (sym f)
-end-is right l ends f = ap (λ m. standsAt (first m)) (sym f)
+end-is left l atEnd f = ap (λ m. standsAt (last m)) (sym f)
+end-is right l atEnd f = ap (λ m. standsAt (first m)) (sym f)
 end-is d l (notStepped n) f = absurd f
 
 pub end-one : (d : Side) (l : List Entry) (a b : Stepped) → EndIs d l a → EndIs d l b → a ≡ b
@@ -169,22 +169,22 @@ module _ (h : Handle) (q : Queue) (s : Sound q) where
 
   pub stand-single : (a b : Stepped) → StandAnswers h q a → StandAnswers h q b → a ≡ b
   stand-single (stands g) (stands i) f k = ap stands (f .0 ∙ sym (k .0))
-  stand-single (stands g) ends f k = absurd k
+  stand-single (stands g) atEnd f k = absurd k
   stand-single (stands g) (notStepped n) f k = absurd (k .1 (f .1))
-  stand-single ends b f k = absurd f
+  stand-single atEnd b f k = absurd f
   stand-single (notStepped m) (stands i) f k = absurd (f .1 (k .1))
-  stand-single (notStepped m) ends f k = absurd k
+  stand-single (notStepped m) atEnd f k = absurd k
   stand-single (notStepped m) (notStepped n) f k = ap notStepped (f .0 ∙ sym (k .0))
 
   pub step-single : (d : Side) (a b : Stepped) → StepAnswers d h q a → StepAnswers d h q b → a ≡ b
   step-single d (stands g) (stands i) f k = both-face d (f .0) (k .0) (stands g) (stands i) (f .1) (k .1)
-  step-single d (stands g) ends f k = both-face d (f .0) (k .0) (stands g) ends (f .1) (k .1)
+  step-single d (stands g) atEnd f k = both-face d (f .0) (k .0) (stands g) atEnd (f .1) (k .1)
   step-single d (stands g) (notStepped n) f k = absurd (k .1 (target-live h q s (f .0)))
-  step-single d ends (stands i) f k = both-face d (f .0) (k .0) ends (stands i) (f .1) (k .1)
-  step-single d ends ends f k = refl
-  step-single d ends (notStepped n) f k = absurd (k .1 (target-live h q s (f .0)))
+  step-single d atEnd (stands i) f k = both-face d (f .0) (k .0) atEnd (stands i) (f .1) (k .1)
+  step-single d atEnd atEnd f k = refl
+  step-single d atEnd (notStepped n) f k = absurd (k .1 (target-live h q s (f .0)))
   step-single d (notStepped m) (stands i) f k = absurd (f .1 (target-live h q s (k .0)))
-  step-single d (notStepped m) ends f k = absurd (f .1 (target-live h q s (k .0)))
+  step-single d (notStepped m) atEnd f k = absurd (f .1 (target-live h q s (k .0)))
   step-single d (notStepped m) (notStepped n) f k = ap notStepped (f .0 ∙ sym (k .0))
 
 -- Search
@@ -198,10 +198,10 @@ module _ (key : ℕ) (q : Queue) (s : Sound q) where
   one-side greater equal x f g = absurd g
   one-side greater greater x f g = refl
 
-  no-entry : NoEntries q → (x : Entry) → ¬ Holds q x
+  no-entry : NoEntries q → (x : Entry) → ¬ HasEntry q x
   no-entry n x i = rw n at i
 
-  pub search-single : (a b : Found) → SearchAnswers key q a → SearchAnswers key q b → a ≡ b
+  pub search-single : (a b : SearchAnswer) → SearchAnswers key q a → SearchAnswers key q b → a ≡ b
   search-single (equalAt g m) (equalAt h n) f k =
       let e : f .0 ≡ k .0 = rising-unique (entries q) (s .rising) (f .0) (k .0) (f .1) (k .1) (f .3 ∙ sym (k .3)) in
       let i : g ≡ h = sym (names-handle g (f .0) (f .2)) ∙ ap handleOf e ∙ names-handle h (k .0) (k .2) in

@@ -15,8 +15,8 @@ use Rattle.wavl.proofs.Lists.{in-middle}
 use Rattle.wavl.proofs.Order.{choose-cases}
 use Rattle.wavl.proofs.Found.{Searched, search-right}
 use Rattle.wavl.proofs.Chain.{split-unique}
-use Rattle.rules.specs.Queue.{Handle, handleOf, Queue, entries, Holds, Has, Names, Live}
-use Rattle.rules.specs.Answers.{Where, less, equal, greater, Inserted, new, replacing, notInserted, failedOrdRequirement, Stepped, stands, ends, notStepped}
+use Rattle.rules.specs.Queue.{Handle, handleOf, Queue, entries, HasEntry, Has, Names, Live}
+use Rattle.rules.specs.Answers.{Where, less, equal, greater, Inserted, new, replacing, notInserted, failedOrdRequirement, Stepped, stands, atEnd, notStepped}
 use Rattle.rules.specs.Place.{Spot, nowhere, spot, spotOf}
 use Rattle.rules.specs.Insert.{keyed, Between, decBetween, addWith, addAt, swapAt, addBeside, placeNormal, insertNormal, placeEmpty, insertEmpty, placeManual, insertManual, Kind, normal, onEmpty, manual, insert, ahead, foresee}
 use Rattle.rules.specs.Remove.{noteOf, removeSpot, remove}
@@ -90,7 +90,7 @@ target-at h q a x r b p n = record {
 }
 
 module _ (h : Handle) (q : Queue) (s : Sound q) where
-  pub target-holds : (t : Target h q) → Holds q (t .target)
+  pub target-holds : (t : Target h q) → HasEntry q (t .target)
   target-holds t = rw (t .chain) (in-middle (t .target) (t .smaller) (t .greater))
 
   pub target-live : Target h q → Live h q
@@ -161,7 +161,7 @@ pub ahead-answers : (k : Kind) (key : ℕ) (q : Queue) → Sound q → AheadAnsw
 unfolding foresee
 ahead-answers k key q s = ahead-told k key q (insert k key 0 q .0) (insert-answers key 0 q s k)
 
--- the ends of a chain
+-- the atEnd of a chain
 last-split : (z : Entry) (l : List Entry) → (k : List Entry) × (y : Entry) × (z ∷ l ≡ k ++ (y ∷ [])) × (last (z ∷ l) ≡ some y)
 unfolding last
 last-split z [] = ([], z, refl, refl)
@@ -178,12 +178,12 @@ end-right [] = refl
 end-right (y ∷ l) = (y, l, refl, refl)
 
 -- First and last, on any queue
-pub first-answers : (q : Queue) → FirstAnswers q (Look.first q)
-unfolding Look.first
+pub first-answers : (q : Queue) → FirstAnswers q (Look.standFirst q)
+unfolding Look.standFirst
 first-answers q = end-right (entries q)
 
-pub last-answers : (q : Queue) → LastAnswers q (Look.last q)
-unfolding Look.last
+pub last-answers : (q : Queue) → LastAnswers q (Look.standLast q)
+unfolding Look.standLast
 last-answers q = end-left (entries q)
 
 -- Removal, reading and stepping
@@ -223,7 +223,7 @@ module _ (h : Handle) (q : Queue) (s : Sound q) where
 
   step-end : (d : Side) (t : Target h q) (o : Stepped) → EndIs d (Rest d t) o → StepAnswers d h q o
   step-end d t (stands g) f = (t, f)
-  step-end d t ends f = (t, f)
+  step-end d t atEnd f = (t, f)
   step-end d t (notStepped n) f = absurd f
 
   step-spot : (d : Side) (c : Spot) → SpotIs h q c → StepAnswers d h q (stepSpot d c)

@@ -57,14 +57,14 @@ pub data Read : Type 0 where
   notRead : ℕ → Read
 
 -- "Search as a call answers the equal entry's handle, or the last node's handle and the side, or Empty, each with the count."
-pub data Found : Type 0 where
-  equalAt : Handle → ℕ → Found
-  beside : Handle → Where → ℕ → Found
-  noEntry : ℕ → Found
-  notFound : ℕ → Found
+pub data SearchAnswer : Type 0 where
+  equalAt : Handle → ℕ → SearchAnswer
+  beside : Handle → Where → ℕ → SearchAnswer
+  noEntry : ℕ → SearchAnswer
+  notFound : ℕ → SearchAnswer
 
 -- "at an end the answer is End"
 pub data Stepped : Type 0 where
   stands : Handle → Stepped
-  ends : Stepped
+  atEnd : Stepped
   notStepped : ℕ → Stepped

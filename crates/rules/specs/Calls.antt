@@ -4,11 +4,11 @@ use mathlib.Core.Bool.{Bool, true}
 use mathlib.Core.List.{List, [], _∷_}
 use Prim.Native.Nat.{ℕ}
 use Rattle.rules.specs.Queue.{Handle, Queue}
-use Rattle.rules.specs.Answers.{Laid, Inserted, Ahead, Removed, Read, Found, Stepped}
+use Rattle.rules.specs.Answers.{Laid, Inserted, Ahead, Removed, Read, SearchAnswer, Stepped}
 use Rattle.rules.specs.LayOut.{layOut}
 use Rattle.rules.specs.Insert.{Kind, insert, foresee}
 use Rattle.rules.specs.Remove.{remove}
-use Rattle.rules.specs.Look.{read, searchFor, first, last, standAt, next, prev}
+use Rattle.rules.specs.Look.{read, searchFor, standFirst, standLast, standAt, next, prev}
 
 -- "Search, reading, stepping, look-ahead and check change no store"
 pub data Look : Type 0 where
@@ -28,7 +28,7 @@ pub data Call : Type 0 where
 abbrev pub Seen : Look → Type 0
 Seen (foresees kind key) = Ahead
 Seen (reading h) = Read
-Seen (searching key) = Found
+Seen (searching key) = SearchAnswer
 Seen toFirst = Stepped
 Seen toLast = Stepped
 Seen (standing h) = Stepped
@@ -42,13 +42,13 @@ Answer (removal h) = Removed
 Answer (layingOut capacity top) = Laid
 Answer (looks l) = Seen l
 
--- The check says yes of a queue: "A store is sound when" it holds one (crate `holds`).
+-- The check says yes of a queue: "A store is sound when" it holds one (crate `queue_of_store`).
 unfoldable pub look : (l : Look) → Queue → Seen l
 look (foresees kind key) q = foresee kind key q
 look (reading h) q = read h q
 look (searching key) q = searchFor key q
-look toFirst q = first q
-look toLast q = last q
+look toFirst q = standFirst q
+look toLast q = standLast q
 look (standing h) q = standAt h q
 look (toNext h) q = next h q
 look (toPrev h) q = prev h q
@@ -61,7 +61,7 @@ answer enough (removal h) q = remove h q
 answer enough (layingOut capacity top) q = layOut enough capacity top q
 answer enough (looks l) q = (look l q, q)
 
--- a call and what it answered; a history has these in the order of the calls, the first call first
+-- a call and what it answered; a history has these in the order of the calls, the standFirst call standFirst
 pub record Event : Type 0 where
   pub call : Call
   pub reply : Answer call

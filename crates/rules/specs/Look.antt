@@ -8,7 +8,7 @@ use Rattle.wavl.specs.Tree.{Side, left, right, fork}
 use Rattle.wavl.specs.Way.{place, neighbour}
 use Rattle.wavl.specs.Search
 use Rattle.rules.specs.Queue.{Handle, handleOf, Queue, entries}
-use Rattle.rules.specs.Answers.{Where, less, greater, Read, reads, notRead, Found, equalAt, beside, noEntry, Stepped, stands, ends, notStepped, invalidPtr}
+use Rattle.rules.specs.Answers.{Where, less, greater, Read, reads, notRead, SearchAnswer, equalAt, beside, noEntry, Stepped, stands, atEnd, notStepped, invalidPtr}
 use Rattle.rules.specs.Place.{Spot, nowhere, spot, spotOf}
 
 -- "Reading and removal answer key and value."
@@ -19,29 +19,29 @@ readSpot (spot a x r b p) = reads (x .key) (x .value)
 unfoldable pub read : Handle → Queue → Read
 read h q = readSpot (spotOf h q)
 
--- "Search as a call answers the equal entry's handle, or the last node's handle and the side, or Empty, each with the count."
+-- "Search as a call answers the equal entry's handle, or the standLast node's handle and the side, or Empty, each with the count."
 abbrev pub whereOf : Side → Where
 whereOf left = less
 whereOf right = greater
 
-unfoldable pub foundIn : Search.Found → Found
+unfoldable pub foundIn : Search.Found → SearchAnswer
 foundIn (Search.equalTo x n) = equalAt (handleOf x) n
 foundIn (Search.nearest x d n) = beside (handleOf x) (whereOf d) n
 foundIn Search.emptyTree = noEntry 0
 
-unfoldable pub searchFor : ℕ → Queue → Found
-searchFor key q = foundIn (Search.answer (Search.search key (q .tree)))
+unfoldable pub searchFor : ℕ → Queue → SearchAnswer
+searchFor key q = foundIn (Search.answerAt (Search.search key (q .tree)))
 
--- "It starts at first, last or a live handle; on an empty queue first and last answer End."
+-- "It starts at standFirst, standLast or a live handle; on an empty queue standFirst and standLast answer End."
 unfoldable pub standsAt : Option Entry → Stepped
-standsAt none = ends
+standsAt none = atEnd
 standsAt (some x) = stands (handleOf x)
 
-unfoldable pub first : Queue → Stepped
-first q = standsAt (Lists.first (entries q))
+unfoldable pub standFirst : Queue → Stepped
+standFirst q = standsAt (Lists.first (entries q))
 
-unfoldable pub last : Queue → Stepped
-last q = standsAt (Lists.last (entries q))
+unfoldable pub standLast : Queue → Stepped
+standLast q = standsAt (Lists.last (entries q))
 
 -- there, by the handle given; 3 where it names no live entry
 unfoldable pub standSpot : Handle → Spot → Stepped

@@ -50,12 +50,12 @@ abbrev pub entries : Queue → List Entry
 entries q = inorder (q .tree)
 
 -- an entry of the queue
-abbrev pub Holds : Queue → Entry → Type 0
-Holds q x = In x (entries q)
+abbrev pub HasEntry : Queue → Entry → Type 0
+HasEntry q x = In x (entries q)
 
 -- an entry with that key is there
 abbrev pub Has : ℕ → Queue → Type 0
-Has k q = (x : Entry) × Holds q x × (x .key ≡ k)
+Has k q = (x : Entry) × HasEntry q x × (x .key ≡ k)
 
 -- a handle names an entry that has its slot and its generation
 abbrev pub Names : Handle → Entry → Type 0
@@ -63,7 +63,7 @@ Names h x = (x .slot ≡ h .slot) × (x .generation ≡ h .generation)
 
 -- "a handle that names a live entry"
 abbrev pub Live : Handle → Queue → Type 0
-Live h q = (x : Entry) × Holds q x × Names h x
+Live h q = (x : Entry) × HasEntry q x × Names h x
 
 -- two tests, both to hold
 abbrev pub decBoth : {A B : Type 0} → Dec A → Dec B → Dec (A × B)

@@ -12,8 +12,8 @@ use Rattle.wavl.specs.Lists.{first, last}
 use Rattle.wavl.specs.Entry.{Entry}
 use Rattle.wavl.specs.Tree.{Side, left, right}
 use Rattle.wavl.specs.Search.{path}
-use Rattle.rules.specs.Queue.{Handle, handleOf, Queue, entries, Holds, Has, Names, Live}
-use Rattle.rules.specs.Answers.{Where, less, equal, greater, Laid, laid, notLaid, Inserted, new, replacing, notInserted, Ahead, wouldAdd, wouldReplace, wouldRefuse, Note, noNote, generationOverflow, Removed, removed, notRemoved, Read, reads, notRead, Stepped, stands, ends, notStepped, Found, equalAt, beside, noEntry, notFound, notWithinCapacity, failedOrdRequirement, invalidPtr, badLayout}
+use Rattle.rules.specs.Queue.{Handle, handleOf, Queue, entries, HasEntry, Has, Names, Live}
+use Rattle.rules.specs.Answers.{Where, less, equal, greater, Laid, laid, notLaid, Inserted, new, replacing, notInserted, Ahead, wouldAdd, wouldReplace, wouldRefuse, Note, noNote, generationOverflow, Removed, removed, notRemoved, Read, reads, notRead, Stepped, stands, atEnd, notStepped, SearchAnswer, equalAt, beside, noEntry, notFound, notWithinCapacity, failedOrdRequirement, invalidPtr, badLayout}
 use Rattle.rules.specs.LayOut.{Good}
 use Rattle.rules.specs.Insert.{keyed, Between, Kind, normal, onEmpty, manual}
 
@@ -27,7 +27,7 @@ NextFree q h = (rest : List Handle) × (q .free ≡ h ∷ rest)
 -- Normal: refused 1 exactly when "a new entry is needed and no slot is free", and never otherwise
 abbrev pub NormalAnswers : ℕ → Queue → Inserted → Type 0
 NormalAnswers key q (new h) = (¬ Has key q) × NextFree q h
-NormalAnswers key q (replacing h v) = (x : Entry) × Holds q x × Names h x × (x .key ≡ key) × (x .value ≡ v)
+NormalAnswers key q (replacing h v) = (x : Entry) × HasEntry q x × Names h x × (x .key ≡ key) × (x .value ≡ v)
 NormalAnswers key q (notInserted n) = (n ≡ notWithinCapacity) × (¬ Has key q) × NoSlot q
 
 -- Empty: refused 2 on "a queue with entries"
@@ -67,7 +67,7 @@ Adding greater = Unit {0}
 abbrev pub ManualAnswers : Handle → Where → ℕ → Queue → Inserted → Type 0
 ManualAnswers h w key q (new g) = ManualFits h w key q × Adding w × NextFree q g
 ManualAnswers h w key q (replacing g v) =
-    ManualFits h w key q × (w ≡ equal) × (g ≡ h) × ((x : Entry) × Holds q x × Names h x × (x .value ≡ v))
+    ManualFits h w key q × (w ≡ equal) × (g ≡ h) × ((x : Entry) × HasEntry q x × Names h x × (x .value ≡ v))
 ManualAnswers h w key q (notInserted n) =
     ((n ≡ failedOrdRequirement) × (¬ ManualFits h w key q)) ⊎ ((n ≡ notWithinCapacity) × ManualFits h w key q × Adding w × NoSlot q)
 
@@ -94,18 +94,18 @@ NoteFits noNote x q = x .generation < q .top
 NoteFits generationOverflow x q = ¬ (x .generation < q .top)
 
 abbrev pub RemoveAnswers : Handle → Queue → Removed → Type 0
-RemoveAnswers h q (removed k v note) = (x : Entry) × Holds q x × Names h x × (x .key ≡ k) × (x .value ≡ v) × NoteFits note x q
+RemoveAnswers h q (removed k v note) = (x : Entry) × HasEntry q x × Names h x × (x .key ≡ k) × (x .value ≡ v) × NoteFits note x q
 RemoveAnswers h q (notRemoved n) = (n ≡ invalidPtr) × (¬ Live h q)
 
 abbrev pub ReadAnswers : Handle → Queue → Read → Type 0
-ReadAnswers h q (reads k v) = (x : Entry) × Holds q x × Names h x × (x .key ≡ k) × (x .value ≡ v)
+ReadAnswers h q (reads k v) = (x : Entry) × HasEntry q x × Names h x × (x .key ≡ k) × (x .value ≡ v)
 ReadAnswers h q (notRead n) = (n ≡ invalidPtr) × (¬ Live h q)
 
 -- the entry at the end of a chain, the last of it for left and the first for right; End where it has none
 abbrev pub EndIs : Side → List Entry → Stepped → Type 0
 EndIs left l (stands g) = (m : List Entry) × (y : Entry) × (l ≡ m ++ (y ∷ [])) × (g ≡ handleOf y)
 EndIs right l (stands g) = (y : Entry) × (m : List Entry) × (l ≡ y ∷ m) × (g ≡ handleOf y)
-EndIs d l ends = l ≡ []
+EndIs d l atEnd = l ≡ []
 EndIs d l (notStepped n) = ⊥
 
 -- "on an empty queue first and last answer End": the chain seen from before its first entry, and from behind its last
@@ -118,7 +118,7 @@ LastAnswers q a = EndIs left (entries q) a
 -- "It starts at .. a live handle": there, or 3
 abbrev pub StandAnswers : Handle → Queue → Stepped → Type 0
 StandAnswers h q (stands g) = (g ≡ h) × Live h q
-StandAnswers h q ends = ⊥
+StandAnswers h q atEnd = ⊥
 StandAnswers h q (notStepped n) = (n ≡ invalidPtr) × (¬ Live h q)
 
 -- Stepping: the entry next to the handle's in the chain; End where none is there
@@ -128,7 +128,7 @@ Rest right t = t .greater
 
 abbrev pub StepAnswers : Side → Handle → Queue → Stepped → Type 0
 StepAnswers d h q (stands g) = (t : Target h q) × EndIs d (Rest d t) (stands g)
-StepAnswers d h q ends = (t : Target h q) × EndIs d (Rest d t) ends
+StepAnswers d h q atEnd = (t : Target h q) × EndIs d (Rest d t) atEnd
 StepAnswers d h q (notStepped n) = (n ≡ invalidPtr) × (¬ Live h q)
 
 -- Search as a call: the equal entry, or the last node of the path with the side of it on which the key would stand, or Empty; the
@@ -138,15 +138,15 @@ KeyOn less key x = key < x .key
 KeyOn equal key x = ⊥
 KeyOn greater key x = x .key < key
 
-abbrev pub SearchAnswers : ℕ → Queue → Found → Type 0
-SearchAnswers key q (equalAt h n) = (x : Entry) × Holds q x × Names h x × (x .key ≡ key) × (n ≡ length (path key (q .tree)))
+abbrev pub SearchAnswers : ℕ → Queue → SearchAnswer → Type 0
+SearchAnswers key q (equalAt h n) = (x : Entry) × HasEntry q x × Names h x × (x .key ≡ key) × (n ≡ length (path key (q .tree)))
 SearchAnswers key q (beside h d n) =
-    (¬ Has key q) × ((x : Entry) × Holds q x × Names h x × KeyOn d key x × (last (path key (q .tree)) ≡ some x)) × (n ≡ length (path key (q .tree)))
+    (¬ Has key q) × ((x : Entry) × HasEntry q x × Names h x × KeyOn d key x × (last (path key (q .tree)) ≡ some x)) × (n ≡ length (path key (q .tree)))
 SearchAnswers key q (noEntry n) = (n ≡ 0) × NoEntries q
 SearchAnswers key q (notFound n) = ⊥
 
 -- the count that each answer carries
-abbrev pub countOf : Found → ℕ
+abbrev pub countOf : SearchAnswer → ℕ
 countOf (equalAt h n) = n
 countOf (beside h d n) = n
 countOf (noEntry n) = n

@@ -13,7 +13,7 @@ use Rattle.wavl.specs.Lists.{All, In, Differ, Once}
 use Rattle.wavl.proofs.Lists.{all-both, all-of}
 use Rattle.rules.specs.Queue.{Handle, handle}
 use Rattle.rules.specs.Sound.{freeSlots, Under, FreeGeneration}
-use Rattle.holds.specs.Free.{Blank, FreeWords}
+use Rattle.queue_of_store.specs.Free.{Blank, FreeWords}
 use Rattle.sound.proofs.SlotFacts.{AtRest, GoodPlace, Good}
 
 -- the handles of the first n places, the topmost first

@@ -17,9 +17,9 @@ use Rattle.wavl.specs.Tree.{Tree, tip, fork, rank, inorder}
 use Rattle.wavl.specs.Ranks.{Fits, Ranks}
 use Rattle.wavl.proofs.Lists.{all-both}
 use Rattle.rules.specs.Sound.{LiveGeneration}
-use Rattle.holds.specs.Ends.{topSlot}
-use Rattle.holds.specs.Links.{Links}
-use Rattle.holds.specs.Entries.{EntryWords, AllEntries}
+use Rattle.queue_of_store.specs.Ends.{topSlot}
+use Rattle.queue_of_store.specs.Links.{Links}
+use Rattle.queue_of_store.specs.Entries.{EntryWords, AllEntries}
 use Rattle.sound.specs.inner.Nodes.{nodeTest}
 use Rattle.sound.specs.inner.Joints.{joinTest}
 use Rattle.sound.specs.inner.Walking.{walkNode, walkModel}

@@ -17,13 +17,13 @@ use Rattle.wavl.proofs.Lists.{all-in, in-slots}
 use Rattle.wavl.proofs.Rule.{ranked→ranks}
 use Rattle.rules.specs.Queue.{Handle, Queue, entries}
 use Rattle.rules.specs.Sound.{freeSlots, Under, FreeGeneration}
-use Rattle.holds.specs.Ends.{topSlot}
-use Rattle.holds.specs.Links.{Links}
-use Rattle.holds.specs.Free.{Blank, FreeAt, FreeWords}
-use Rattle.holds.specs.Holds.{Holds}
-use Rattle.holds.proofs.Has.{Has, has-cases}
-use Rattle.holds.proofs.Parts.{sound-of, words-of, few-slots, separate-of, used-few, free-low, size-few, under-budget}
-use Rattle.holds.proofs.States.{State, live, free, retired, state-of, live-node}
+use Rattle.queue_of_store.specs.Ends.{topSlot}
+use Rattle.queue_of_store.specs.Links.{Links}
+use Rattle.queue_of_store.specs.Free.{Blank, FreeAt, FreeWords}
+use Rattle.queue_of_store.specs.Holds.{Holds}
+use Rattle.queue_of_store.proofs.Has.{Has, has-cases}
+use Rattle.queue_of_store.proofs.Parts.{sound-of, words-of, few-slots, separate-of, used-few, free-low, size-few, under-budget}
+use Rattle.queue_of_store.proofs.States.{State, live, free, retired, state-of, live-node}
 use Rattle.sound.proofs.SlotFacts.{Hangs, GoodSlot, GoodPlace, Good}
 use Rattle.sound.proofs.Grown.{rank-some}
 use Rattle.sound.proofs.Walks.{top-rank}

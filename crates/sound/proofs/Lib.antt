@@ -1,5 +1,5 @@
-pub mod Answers
-pub mod Turns
+pub mod TestReads
+pub mod CheckTurns
 pub mod Choices
 pub mod NodeFacts
 pub mod SlotFacts

@@ -12,9 +12,9 @@ use Rattle.arena.specs.inner.Budget.{budget}
 use Rattle.arena.proofs.Theorems.{passes}
 use Rattle.wavl.proofs.Rule.{ranked→ranks}
 use Rattle.rules.specs.Queue.{Queue, entries}
-use Rattle.holds.specs.Holds.{Holds}
-use Rattle.holds.proofs.Chains.{endOr}
-use Rattle.holds.proofs.Parts.{sound-of, words-of, few-slots, separate-of, live-low}
+use Rattle.queue_of_store.specs.Holds.{Holds}
+use Rattle.queue_of_store.proofs.Chains.{endOr}
+use Rattle.queue_of_store.proofs.Parts.{sound-of, words-of, few-slots, separate-of, live-low}
 use Rattle.sound.specs.inner.Walking.{walkModel, wholeTest}
 use Rattle.sound.specs.inner.Check.{topTest, unusedTest, rulesWith, rulesTest, soundModel}
 use Rattle.sound.specs.declared.walking.Walked.the-variants.{To}

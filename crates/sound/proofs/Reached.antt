@@ -11,9 +11,9 @@ use Rattle.arena.specs.Words.{field, LEFT, RIGHT, RANK, BACK}
 use Rattle.arena.specs.inner.Budget.{budget}
 use Rattle.wavl.specs.Entry.{slots}
 use Rattle.wavl.specs.Tree.{Tree, tip, fork, left, inorder}
-use Rattle.holds.specs.Ends.{topSlot}
-use Rattle.holds.specs.Links.{Links, TreeWords}
-use Rattle.holds.proofs.Has.{Has, has-cases, has-top, has-near, has-far}
+use Rattle.queue_of_store.specs.Ends.{topSlot}
+use Rattle.queue_of_store.specs.Links.{Links, TreeWords}
+use Rattle.queue_of_store.proofs.Has.{Has, has-cases, has-top, has-near, has-far}
 use Rattle.sound.proofs.SlotFacts.{Hangs}
 
 has-none : (p : ℕ) → Has p tip → ⊥

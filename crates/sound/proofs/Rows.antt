@@ -12,10 +12,10 @@ use Rattle.wavl.specs.Lists.{All, Differ, Once}
 use Rattle.wavl.specs.Entry.{Entry, Before, Rising, slots}
 use Rattle.wavl.proofs.Lists.{Neighbours, pairwise-of}
 use Rattle.rules.specs.Sound.{Under}
-use Rattle.holds.specs.Ends.{firstSlot}
-use Rattle.holds.specs.Chain.{Chain, ChainWords}
-use Rattle.holds.specs.Entries.{AllEntries}
-use Rattle.holds.proofs.Chains.{endOr, end-last}
+use Rattle.queue_of_store.specs.Ends.{firstSlot}
+use Rattle.queue_of_store.specs.Chain.{Chain, ChainWords}
+use Rattle.queue_of_store.specs.Entries.{AllEntries}
+use Rattle.queue_of_store.proofs.Chains.{endOr, end-last}
 use Rattle.sound.specs.inner.Joints.{afterOf, beforeOf}
 use Rattle.sound.proofs.NodeFacts.{Joint}
 

@@ -13,7 +13,7 @@ use Rattle.handle.specs.Numbers.{noSlot}
 use Rattle.arena.specs.Words.{field, head, LEFT, RIGHT, RANK, BACK, GENERATION, STACK, ROOT}
 use Rattle.arena.specs.inner.Budget.{budget}
 use Rattle.rules.specs.Sound.{Generation}
-use Rattle.holds.specs.Free.{Blank}
+use Rattle.queue_of_store.specs.Free.{Blank}
 use Rattle.arena.proofs.Paths.{no-refusal}
 use Rattle.sound.specs.inner.Slots.{unlinkedTest, blankTest, restWith, restTest, childTest, hangsWith, hangsTest, slotTest, placeWith, placeTest, slotsTest}
 use Rattle.sound.proofs.Choices.{both-say, both-are, past-is, choice-says, choice-is}

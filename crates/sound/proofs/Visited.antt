@@ -13,7 +13,7 @@ use Rattle.arena.specs.Words.{field, head, LEFT, RIGHT, PREV, ROOT}
 use Rattle.arena.specs.inner.Budget.{budget}
 use Rattle.wavl.specs.Lists.{All, Differ, Once}
 use Rattle.rules.specs.Sound.{Under}
-use Rattle.holds.proofs.Counting.{at-most}
+use Rattle.queue_of_store.proofs.Counting.{at-most}
 use Rattle.sound.specs.inner.Nodes.{nodeTest}
 use Rattle.sound.specs.inner.Joints.{joinTest}
 use Rattle.sound.specs.inner.Walking.{walkModel}

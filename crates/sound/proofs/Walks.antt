@@ -14,15 +14,15 @@ use Rattle.wavl.specs.Tree.{Tree, tip, fork, rank, inorder}
 use Rattle.wavl.specs.Ranks.{Fits, Ranks}
 use Rattle.wavl.proofs.Lists.{all-left, all-right}
 use Rattle.rules.specs.Sound.{Under, LiveGeneration}
-use Rattle.holds.specs.Ends.{topSlot, firstSlot}
-use Rattle.holds.specs.Links.{Links}
-use Rattle.holds.specs.Chain.{Chain, ChainWords}
-use Rattle.holds.specs.Entries.{EntryWords, AllEntries}
-use Rattle.holds.proofs.Chains.{endOr, end-last}
+use Rattle.queue_of_store.specs.Ends.{topSlot, firstSlot}
+use Rattle.queue_of_store.specs.Links.{Links}
+use Rattle.queue_of_store.specs.Chain.{Chain, ChainWords}
+use Rattle.queue_of_store.specs.Entries.{EntryWords, AllEntries}
+use Rattle.queue_of_store.proofs.Chains.{endOr, end-last}
 use Rattle.sound.specs.inner.Joints.{afterOf}
 use Rattle.sound.specs.inner.Walking.{walkModel}
 use Rattle.sound.specs.declared.walking.Walked.the-variants.{To}
-use Rattle.sound.proofs.Turns.{walk-tip, walk-on}
+use Rattle.sound.proofs.CheckTurns.{walk-tip, walk-on}
 use Rattle.sound.proofs.NodeFacts.{GoodNode, node-is, Joint, join-is}
 use Rattle.sound.proofs.Rows.{Joined, after-slot, before-slot, after-none, before-none}
 use Rattle.sound.proofs.Grown.{rank-none, rank-some}

@@ -23,13 +23,13 @@ use Rattle.wavl.proofs.Lists.{all-both, all-of, in-left, in-right}
 use Rattle.wavl.proofs.Rule.{ranks→ranked}
 use Rattle.rules.specs.Queue.{Queue, queueOf}
 use Rattle.rules.specs.Sound.{freeSlots, usedSlots, Under}
-use Rattle.holds.specs.Links.{TreeWords}
-use Rattle.holds.specs.Chain.{ChainWords}
-use Rattle.holds.specs.Free.{Retired}
-use Rattle.holds.specs.Holds.{Holds, SoundStore}
-use Rattle.holds.proofs.Has.{Has}
-use Rattle.holds.proofs.States.{slot-entry, live-node}
-use Rattle.holds.proofs.Trees.{slot-low}
+use Rattle.queue_of_store.specs.Links.{TreeWords}
+use Rattle.queue_of_store.specs.Chain.{ChainWords}
+use Rattle.queue_of_store.specs.Free.{Retired}
+use Rattle.queue_of_store.specs.Holds.{Holds, SoundStore}
+use Rattle.queue_of_store.proofs.Has.{Has}
+use Rattle.queue_of_store.proofs.States.{slot-entry, live-node}
+use Rattle.queue_of_store.proofs.Trees.{slot-low}
 use Rattle.arena.proofs.Paths.{no-refusal}
 use Rattle.sound.specs.inner.Joints.{joinTest}
 use Rattle.sound.specs.inner.Walking.{onward, walkModel, wholeTest}

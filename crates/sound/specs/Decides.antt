@@ -5,7 +5,7 @@ use mathlib.Core.Path.{_≡_}
 use mathlib.Core.Logic.{_↔_}
 use mathlib.Core.Bool.{Bool, true, false}
 use mathlib.Core.List.{List}
-use Rattle.holds.specs.Holds.{SoundStore}
+use Rattle.queue_of_store.specs.Holds.{SoundStore}
 
 pub record Decides (s : List ℕ) (answer : Bool) : Type 0 where
   pub yes : answer ≡ true ↔ SoundStore s

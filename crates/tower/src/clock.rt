@@ -1,5 +1,5 @@
 // The tower's clock: the day of this evening, its offset, and times and strikes as a clockmaker writes them.
-use arena::entries::Entry;
+use handle::Entry;
 use due::Time;
 use due::TimeAnswer;
 use handle::Refusal;

@@ -7,8 +7,8 @@ use queue::cursor::Cursor;
 use queue::cursor::Moved;
 use queue::looking;
 use queue::taking;
-use remove::reading::Reading;
-use remove::removing::Removed;
+use handle::Reading;
+use handle::Removed;
 
 // Takes out the strike that h names.
 pub fn take(s: &mut [u64], h: Handle) {

@@ -9,11 +9,11 @@ use Rattle.arena.specs.Words.{field, LEFT, RIGHT, RANK, BACK, ROOT}
 use Rattle.arena.specs.inner.Only.{Only}
 use Rattle.arena.proofs.Paths.{either}
 use Rattle.arena.proofs.Only.{only-none, only-trans, only-put, only-putHead}
-use Rattle.tree.specs.inner.Links.{sideOf, withBack, withChild, relinked, withNode, spreadWith}
+use Rattle.tree.specs.inner.Links.{sideOfChild, withBack, withChild, relinked, withNode, spreadWith}
 use Rattle.tree.specs.inner.Kept.{TreeOnly}
 
-pub side-small : (s : List ℕ) (cap p c : ℕ) → sideOf s cap p c ≤ 1
-unfolding sideOf
+pub side-small : (s : List ℕ) (cap p c : ℕ) → sideOfChild s cap p c ≤ 1
+unfolding sideOfChild
 side-small s cap p c = either (λ d. d ≤ 1) (eqb (field s cap p RIGHT) c) 1 0 (λ e. omega arith) (λ e. omega arith)
 
 module _ {cap : ℕ} {W : ℕ → ℕ → Type 0} {H : ℕ → Type 0} where
@@ -29,7 +29,7 @@ module _ {cap : ℕ} {W : ℕ → ℕ → Type 0} {H : ℕ → Type 0} where
 
   pub only-relinked : (s : List ℕ) (p old new : ℕ) → (p < cap → (d : ℕ) → d ≤ 1 → W p (LEFT + d)) → (cap ≤ p → H ROOT) → Only s (relinked s cap p old new) cap W H
   unfolding relinked
-  only-relinked s p old new w h = let m = side-small s cap p old in only-child s p (sideOf s cap p old) new m (λ l. w l _ m) h
+  only-relinked s p old new w h = let m = side-small s cap p old in only-child s p (sideOfChild s cap p old) new m (λ l. w l _ m) h
 
   pub only-node : (s : List ℕ) (d i back near far rank : ℕ) → d ≤ 1 → i < cap → ((g : ℕ) → LEFT ≤ g → g ≤ BACK → W i g)
       → Only s (withNode s cap d i back near far rank) cap W H

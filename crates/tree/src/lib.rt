@@ -4,7 +4,7 @@
 ghost use mathlib.Core.Path.{_≡_};
 ghost use Prim.Native.Nat.{_<_, _≤_};
 ghost use Rattle.arena.specs.Words.{Room};
-ghost use Rattle.tree.specs.inner.Links.{rankOf, sideOf, withBack, relinked, withNode, withChild, spreadWith};
+ghost use Rattle.tree.specs.inner.Links.{rankOf, sideOfChild, withBack, relinked, withNode, withChild, spreadWith};
 use arena::words;
 use arena::words::BACK;
 use arena::words::LEFT;
@@ -38,7 +38,7 @@ pub fn rank_of(s: &[u64], cap: u64, p: u64) -> u64
 pub fn side_of(s: &[u64], cap: u64, p: u64, c: u64) -> u64
     requires { ⌜ Room (now s) cap ⌝ }
     requires { ⌜ p < cap ⌝ }
-    ensures { λ r. ⌜ r ≡ sideOf (now (s .entry)) cap p c ⌝ }
+    ensures { λ r. ⌜ r ≡ sideOfChild (now (s .entry)) cap p c ⌝ }
     ensures { λ r. ⌜ r ≤ 1 ⌝ }
 {
     if words::field(s, cap, p, RIGHT) == c {

@@ -13,7 +13,7 @@ use Rattle.wavl.specs.Entry.{Entry, Rising}
 use Rattle.wavl.specs.Tree.{left, right, Tree, tip, fork, rank, inorder, size}
 use Rattle.wavl.specs.Way.{step, Way, Place, place, plug, whole, before, after}
 use Rattle.wavl.specs.Ranks.{Ranks}
-use Rattle.wavl.specs.Search.{KeyRound, equal, less, greater, keyRound, byKey, find, search, path, looked}
+use Rattle.wavl.specs.Search.{KeyRound, keyEqual, keyLess, keyGreater, keyRound, byKey, find, search, path, looked}
 use Rattle.wavl.proofs.Lists.{all-in, in-middle}
 use Rattle.wavl.proofs.Order.{empty-place-order}
 use Rattle.wavl.proofs.Rising.{Between, Smaller, Greater, between, node-around}
@@ -26,7 +26,7 @@ pub record Hit (k : ℕ) (t : Tree) (a : Tree) (e : Entry) (r : ℕ) (b : Tree) 
   pub key-is : e .key ≡ k
   pub present : In e (inorder t)
 
--- no entry of t has the key, and the empty place lies between the smaller keys and the greater ones
+-- no entry of t has the key, and the empty place lies between the smaller keys and the keyGreater ones
 pub record Missed (k : ℕ) (t : Tree) (p : Way) : Type 0 where
   pub back : plug tip p ≡ t
   pub order : inorder t ≡ before p ++ after p
@@ -86,9 +86,9 @@ find-path k (fork a e r b) p = go (keyRound k (e .key)) (find-path k a (step lef
         → looked (find k b (step right e r a ∷ p)) ≡ length (path k b) + suc (length p)
         → looked (byKey x (place (fork a e r b) p) (find k a (step left e r b ∷ p)) (find k b (step right e r a ∷ p)))
         ≡ suc (length (byKey x [] (path k a) (path k b))) + length p
-    go (equal x) i j = omega arith
-    go (less x) i j = omega arith
-    go (greater x) i j = omega arith
+    go (keyEqual x) i j = omega arith
+    go (keyLess x) i j = omega arith
+    go (keyGreater x) i j = omega arith
 
 pub looked-path : (k : ℕ) (t : Tree) → looked (search k t) ≡ length (path k t)
 looked-path k t = let i = find-path k t [] in omega arith

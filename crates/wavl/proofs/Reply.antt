@@ -1,4 +1,4 @@
--- What search answers as a call: the equal entry, or the last node looked at and the side, or Empty, each with the count.
+-- What search answers as a call: the keyEqual entry, or the last node looked at and the side, or Empty, each with the count.
 -- A reader may rely on: answer-right says all of it, for a tree with rising keys.
 use mathlib.Core.Path.{_≡_, refl, sym}
 use mathlib.Core.List.{List, [], _∷_, _++_}
@@ -9,7 +9,7 @@ use Rattle.wavl.specs.Lists.{In, last}
 use Rattle.wavl.specs.Entry.{Entry, Rising}
 use Rattle.wavl.specs.Tree.{Side, left, right, Tree, tip, fork, pick, inorder}
 use Rattle.wavl.specs.Way.{step, Way, Place, place, plug, before, after}
-use Rattle.wavl.specs.Search.{KeyRound, equal, less, greater, keyRound, byKey, find, search, path, looked, Found, equalTo, nearest, emptyTree, answer}
+use Rattle.wavl.specs.Search.{KeyRound, keyEqual, keyLess, keyGreater, keyRound, byKey, find, search, path, looked, Found, equalTo, nearest, emptyTree, answerAt}
 use Rattle.wavl.proofs.Lists.{in-middle, some-none}
 use Rattle.wavl.proofs.Order.{IsFork}
 use Rattle.wavl.proofs.Rising.{Between, node-around}
@@ -53,9 +53,9 @@ find-last k (fork a e r b) f p =
   where
     go : (x : KeyRound k (e .key)) → LastIs (e ∷ path k a) (find k a (step left e r b ∷ p)) → LastIs (e ∷ path k b) (find k b (step right e r a ∷ p))
         → LastIs (e ∷ byKey x [] (path k a) (path k b)) (byKey x (place (fork a e r b) p) (find k a (step left e r b ∷ p)) (find k b (step right e r a ∷ p)))
-    go (equal x) i j = refl
-    go (less x) i j = i
-    go (greater x) i j = j
+    go (keyEqual x) i j = refl
+    go (keyLess x) i j = i
+    go (keyGreater x) i j = j
 
 -- the entry has the key
 pub record Equal (k : ℕ) (t : Tree) (e : Entry) (n : ℕ) : Type 0 where
@@ -83,15 +83,15 @@ way-in d e r s p =
     rw (node-around (pick d tip s) e r (pick d s tip) p)
     (in-middle e (before p ++ inorder (pick d tip s)) (inorder (pick d s tip) ++ after p))
 
-pub answer-right : (k : ℕ) (t : Tree) → Rising (inorder t) → Answers k t (answer (search k t))
-unfolding answer plug looked inorder
+pub answer-right : (k : ℕ) (t : Tree) → Rising (inorder t) → Answers k t (answerAt (search k t))
+unfolding answerAt plug looked inorder
 answer-right k t h = go t (search k t) (search-right k t h) (λ f. find-last k t f []) (looked-path k t)
   where
     fork-of : (t : Tree) (e : Entry) → In e (inorder t) → IsFork t
     fork-of tip e i = absurd i
     fork-of (fork a f r b) e i = tt
 
-    go : (t : Tree) (w : Place) → Searched k t w → (IsFork t → LastIs (path k t) w) → looked w ≡ length (path k t) → Answers k t (answer w)
+    go : (t : Tree) (w : Place) → Searched k t w → (IsFork t → LastIs (path k t) w) → looked w ≡ length (path k t) → Answers k t (answerAt w)
     go t (place tip []) s l c = sym (s .back)
     go t (place tip (step d e r u ∷ p)) s l c =
         let i : In e (inorder t) = rw (← s .back) (way-in d e r u p) in

@@ -10,7 +10,7 @@ use Rattle.wavl.specs.Tree.{Side, other, Tree, tip, fork, node, rank, ch
 use Rattle.wavl.specs.Way.{step, Way, plug}
 use Rattle.wavl.specs.Placing.{placeRound, restructure, insertClimb, insertAt}
 use Rattle.wavl.specs.Taking.{roundAt, rotate, lowerBoth, rotateTwice, removeClimb, settle}
-use Rattle.wavl.specs.Search.{KeyRound, equal, less, greater, byKey}
+use Rattle.wavl.specs.Search.{KeyRound, keyEqual, keyLess, keyGreater, byKey}
 use Rattle.wavl.proofs.Order.{choose-cases, place-cases}
 use Rattle.wavl.proofs.Removed.{take-cases}
 
@@ -116,6 +116,6 @@ module _ (n0 : Tree) (d : Side) (e1 : Entry) (r1 : ℕ) (s0 : Tree) (p : Way) wh
 pub key-cases : {A : Type 0} (P : A → Type 0) {k l : ℕ} (x : KeyRound k l) (a b c : A)
     → (k ≡ l → P a) → (k < l → P b) → (l < k → P c) → P (byKey x a b c)
 unfolding byKey
-key-cases P (equal x) a b c f g h = f x
-key-cases P (less x) a b c f g h = g x
-key-cases P (greater x) a b c f g h = h x
+key-cases P (keyEqual x) a b c f g h = f x
+key-cases P (keyLess x) a b c f g h = g x
+key-cases P (keyGreater x) a b c f g h = h x

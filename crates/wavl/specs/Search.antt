@@ -1,4 +1,4 @@
--- Finding a place: by key ("search from the root, left if less, right if greater, to an equal key or a missing child"), by
+-- Finding a place: by key ("search from the root, left if keyLess, right if keyGreater, to an keyEqual key or a missing child"), by
 -- slot, and the empty place beside a node (Manual).
 -- A reader may rely on: search and locate change no tree; where nothing is found, what hangs at the place is a tip.
 use mathlib.Core.List.{List, [], _∷_}
@@ -14,22 +14,22 @@ use Rattle.wavl.specs.Way.{step, Way, Place, place}
 
 -- one round of the search, with the key k at a node of key l
 pub data KeyRound (k l : ℕ) : Type 0 where
-  equal : k ≡ l → KeyRound k l
-  less : k < l → KeyRound k l
-  greater : l < k → KeyRound k l
+  keyEqual : k ≡ l → KeyRound k l
+  keyLess : k < l → KeyRound k l
+  keyGreater : l < k → KeyRound k l
 
 unfoldable pub keyRound : (k l : ℕ) → KeyRound k l
 keyRound k l = decided (ℕ-discrete k l) (decLt k l)
   where
     decided : Dec (k ≡ l) → Dec (k < l) → KeyRound k l
-    decided (yes e) x = equal e
-    decided (no e) (yes x) = less x
-    decided (no e) (no x) = greater (omega arith)
+    decided (yes e) x = keyEqual e
+    decided (no e) (yes x) = keyLess x
+    decided (no e) (no x) = keyGreater (omega arith)
 
 unfoldable pub byKey : {A : Type 0} {k l : ℕ} → KeyRound k l → (here below above : A) → A
-byKey (equal e) a b c = a
-byKey (less x) a b c = b
-byKey (greater x) a b c = c
+byKey (keyEqual e) a b c = a
+byKey (keyLess x) a b c = b
+byKey (keyGreater x) a b c = c
 
 unfoldable pub find : ℕ → Tree → Way → Place
 find k tip p = place tip p
@@ -52,16 +52,16 @@ unfoldable pub looked : Place → ℕ
 looked (place tip p) = length p
 looked (place (fork a e r b) p) = suc (length p)
 
--- "Search as a call answers the equal entry's handle, or the last node's handle and the side, or Empty, each with the count."
+-- "Search as a call answers the keyEqual entry's handle, or the last node's handle and the side, or Empty, each with the count."
 pub data Found : Type 0 where
   equalTo : Entry → ℕ → Found
   nearest : Entry → Side → ℕ → Found
   emptyTree : Found
 
-unfoldable pub answer : Place → Found
-answer (place tip []) = emptyTree
-answer (place tip (step d e r s ∷ p)) = nearest e d (suc (length p))
-answer (place (fork a e r b) p) = equalTo e (suc (length p))
+unfoldable pub answerAt : Place → Found
+answerAt (place tip []) = emptyTree
+answerAt (place tip (step d e r s ∷ p)) = nearest e d (suc (length p))
+answerAt (place (fork a e r b) p) = equalTo e (suc (length p))
 
 -- the node that holds the slot i: a handle's place
 abbrev pub orElse : Place → Place → Place

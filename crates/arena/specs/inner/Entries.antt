@@ -9,7 +9,7 @@ use Rattle.handle.specs.declared.Handle.{Handle}
 use Rattle.arena.specs.Branch.{ifte}
 use Rattle.arena.specs.Keys.{stored, signed}
 use Rattle.arena.specs.Words.{field, put, KEY, RANK, GENERATION, VALUE}
-use Rattle.arena.specs.declared.entries.Entry.{Entry}
+use Rattle.handle.specs.declared.Entry.{Entry}
 
 unfoldable pub isLive : List ℕ → ℕ → Handle → Bool
 isLive s cap h =

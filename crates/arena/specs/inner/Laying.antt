@@ -9,8 +9,8 @@ use Rattle.handle.specs.Numbers.{noSlot, firstGeneration, limit, topLimit}
 use Rattle.handle.specs.declared.Refusal.the-variants.{BadLayout}
 use Rattle.arena.specs.Branch.{ifte}
 use Rattle.arena.specs.Words.{headWords, need, put, putHead, KEY, LEFT, RIGHT, RANK, BACK, PREV, NEXT, GENERATION, VALUE, STACK, CAPACITY, TOP, HEIGHT, FIRST, LAST, ROOT}
-use Rattle.arena.specs.declared.laying.LaidOut.{LaidOut}
-use Rattle.arena.specs.declared.laying.LaidOut.the-variants.{Done, Refused}
+use Rattle.handle.specs.declared.LaidOut.{LaidOut}
+use Rattle.handle.specs.declared.LaidOut.the-variants.{Done, Refused}
 
 -- the links and the rank of a slot without an entry: "Fields without use hold a fixed value." BACK holds a free slot's place in
 -- the stack, else no slot
@@ -48,8 +48,8 @@ goodLayout len cap top =
     (ifte (ltb topLimit top) false
     (ifte (ltb len (need cap)) false true))))
 
-unfoldable pub laid : List ℕ → ℕ → ℕ → List ℕ
-laid s cap top = laySlots cap (freshHead s cap top) cap
+unfoldable pub laidWords : List ℕ → ℕ → ℕ → List ℕ
+laidWords s cap top = laySlots cap (freshHead s cap top) cap
 
-unfoldable pub layOut : List ℕ → ℕ → ℕ → List ℕ × LaidOut
-layOut s cap top = ifte (goodLayout (length s) cap top) (laid s cap top, Done) (s, Refused BadLayout)
+unfoldable pub layOutWords : List ℕ → ℕ → ℕ → List ℕ × LaidOut
+layOutWords s cap top = ifte (goodLayout (length s) cap top) (laidWords s cap top, Done) (s, Refused BadLayout)

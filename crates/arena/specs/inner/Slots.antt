@@ -17,12 +17,12 @@ use Rattle.arena.specs.declared.slots.Freed.the-variants.{Again, Generat
 use Rattle.arena.specs.declared.slots.Freed as F
 
 -- a slot and a generation as a handle
-abbrev pub handleOf : ℕ → ℕ → Handle
-handleOf i g = record { slot = record { 0 = i }; generation = record { 0 = g } }
+abbrev pub handleWith : ℕ → ℕ → Handle
+handleWith i g = record { slot = record { 0 = i }; generation = record { 0 = g } }
 
 -- the slot i, found at the top of the stack
 unfoldable pub foundAt : List ℕ → ℕ → ℕ → Taken
-foundAt s cap i = ifte (leb cap i) T.the-variants.NotSound (At (handleOf i (field s cap i GENERATION)))
+foundAt s cap i = ifte (leb cap i) T.the-variants.NotSound (At (handleWith i (field s cap i GENERATION)))
 
 -- the slot freed last, by the height h of the stack
 unfoldable pub peekFrom : List ℕ → ℕ → ℕ → Taken
@@ -47,10 +47,10 @@ unfoldable pub takeSlot : List ℕ → ℕ → List ℕ × Taken
 takeSlot s cap = takenAs s cap (peekSlot s cap)
 
 -- a slot that was found lies in the store, and the stack is no higher than it can be
-abbrev pub FoundIn : List ℕ → ℕ → Taken → Type 0
-FoundIn s cap (At h) = (h .slot .0 < cap) × (1 ≤ head s HEIGHT) × (head s HEIGHT ≤ cap)
-FoundIn s cap Full = Unit {0}
-FoundIn s cap T.the-variants.NotSound = Unit {0}
+abbrev pub PeekedIn : List ℕ → ℕ → Taken → Type 0
+PeekedIn s cap (At h) = (h .slot .0 < cap) × (1 ≤ head s HEIGHT) × (head s HEIGHT ≤ cap)
+PeekedIn s cap Full = Unit {0}
+PeekedIn s cap T.the-variants.NotSound = Unit {0}
 
 -- a slot that was taken lies in the store
 abbrev pub TakenIn : ℕ → Taken → Type 0

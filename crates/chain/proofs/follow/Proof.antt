@@ -1,6 +1,6 @@
 use Rattle.arena.proofs.Paths.{paths}
-use Rattle.arena.proofs.Answers.{handle-is}
-use Rattle.chain.proofs.Answers.{stepped-at, stepped-in}
+use Rattle.arena.proofs.SlotReads.{handle-is}
+use Rattle.chain.proofs.StepReads.{stepped-at, stepped-in}
 use borrow.Author.Needs.{needs}
 use Rattle.chain.specs.inner.Steps.{followed}
 use Rattle.chain.proofs.follow.Statement.{statement}

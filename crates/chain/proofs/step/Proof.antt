@@ -1,5 +1,5 @@
 use borrow.Author.Needs.{needs}
-use Rattle.chain.proofs.Answers.{step-reads}
+use Rattle.chain.proofs.StepReads.{step-reads}
 use Rattle.chain.proofs.step.Statement.{statement}
 use Rattle.chain.proofs.step.Tie as tie
 

@@ -1,5 +1,5 @@
 use borrow.Author.Needs.{needs}
-use Rattle.chain.proofs.Answers.{unlink-reads}
+use Rattle.chain.proofs.StepReads.{unlink-reads}
 use Rattle.chain.proofs.unlink.Statement.{statement}
 use Rattle.chain.proofs.unlink.Tie as tie
 

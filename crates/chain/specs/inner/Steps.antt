@@ -6,7 +6,7 @@ use mathlib.Core.List.{List}
 use lib.Dec.{eqb, leb}
 use Rattle.handle.specs.Numbers.{noSlot}
 use Rattle.arena.specs.Branch.{ifte}
-use Rattle.arena.specs.inner.Slots.{handleOf}
+use Rattle.arena.specs.inner.Slots.{handleWith}
 use Rattle.arena.specs.Words.{field, head, PREV, GENERATION, FIRST}
 use Rattle.chain.specs.declared.Stepped.{Stepped}
 use Rattle.chain.specs.declared.Stepped.the-variants.{At, End, NotSound}
@@ -16,7 +16,7 @@ unfoldable pub followed : List ℕ → ℕ → ℕ → Stepped
 followed s cap p =
     ifte (eqb p noSlot) End
     (ifte (leb cap p) NotSound
-    (At (handleOf p (field s cap p GENERATION))))
+    (At (handleWith p (field s cap p GENERATION))))
 
 -- back for d = 0, forward for d = 1
 unfoldable pub stepFrom : List ℕ → ℕ → ℕ → ℕ → Stepped

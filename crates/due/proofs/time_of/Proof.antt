@@ -9,7 +9,7 @@ use lib.IntN.{_+ℤ_}
 use mir.Syntax.{w64}
 use mir.Val.{SFits}
 use mir.Facts.{toZ-ofZ}
-use Rattle.due.specs.Due.{goodDay, goodOffset, within, Between, offsetLow, offsetHigh, momentOf, dayLow, dayHigh, secondLow, secondHigh, dayOf, secondOf, timeIs, fromKey}
+use Rattle.due.specs.Due.{goodDay, goodOffset, within, InBounds, offsetLow, offsetHigh, momentOf, dayLow, dayHigh, secondLow, secondHigh, dayOf, secondOf, timeIs, fromKey}
 use Rattle.due.proofs.Ranges.{within-fact}
 use Rattle.due.proofs.Moments.{day-range}
 use Rattle.due.proofs.time_of.Statement.{statement}
@@ -26,7 +26,7 @@ offset-yes : (c : tie.Else1) → goodOffset (c .before .before .args .offset) �
 offset-yes c =
     sym (rw (toZ-ofZ (c .before .before .fits .offset)) at (c .before .within .ensures)) ∙ not-false _ (c .if1 .left)
 
-offset-in : (c : tie.Else1) → Between offsetLow offsetHigh (c .before .before .args .offset)
+offset-in : (c : tie.Else1) → InBounds offsetLow offsetHigh (c .before .before .args .offset)
 offset-in c = within-fact _ _ _ (offset-yes c)
 
 -- the first and the last moment, as they were worked out

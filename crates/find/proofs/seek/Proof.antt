@@ -4,7 +4,7 @@ use native.Mathlib.Omega.{arith}
 use borrow.Author.Needs.{needs}
 use Rattle.arena.specs.inner.Budget.{budget}
 use Rattle.find.specs.inner.Seeking.{seekFrom, seekModel}
-use Rattle.find.proofs.Turns.{none, start, spent, outside, equal, beside, down}
+use Rattle.find.proofs.SeekTurns.{none, start, spent, outside, equal, beside, down}
 use Rattle.find.proofs.seek.Statement.{statement}
 use Rattle.find.proofs.seek.Tie as tie
 

@@ -12,8 +12,8 @@ use Rattle.find.specs.declared.Found.{Found}
 use Rattle.find.specs.declared.Found.the-variants.{Equal, Beside, Empty, NotSound}
 
 -- on which side of a node's key k lies, where the two differ
-unfoldable pub sideOf : ℕ → ℕ → ℕ
-sideOf k key = ifte (ltb k key) 0 1
+unfoldable pub sideOfKey : ℕ → ℕ → ℕ
+sideOfKey k key = ifte (ltb k key) 0 1
 
 -- at the node p, whose child on k's side d is q: `go` is what a search from q comes to
 abbrev pub seekDown : (ℕ → Found) → ℕ → ℕ → ℕ → ℕ → Found
@@ -23,7 +23,7 @@ seekDown go p d q n = ifte (eqb q noSlot) (Beside p d n) (go q)
 abbrev pub seekNode : (ℕ → Found) → List ℕ → ℕ → ℕ → ℕ → ℕ → ℕ → Found
 seekNode go s cap k p key n =
     ifte (eqb key k) (Equal p n)
-    (seekDown go p (sideOf k key) (field s cap p (LEFT + sideOf k key)) n)
+    (seekDown go p (sideOfKey k key) (field s cap p (LEFT + sideOfKey k key)) n)
 
 -- one turn at the link p, after n nodes: `go` is what a further turn comes to
 abbrev pub seekBody : (ℕ → ℕ → Found) → List ℕ → ℕ → ℕ → ℕ → ℕ → Found

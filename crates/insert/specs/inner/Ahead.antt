@@ -9,15 +9,15 @@ use Rattle.handle.specs.declared.Side.{Side}
 use Rattle.handle.specs.declared.Refusal.the-variants.{NotWithinCapacity, FailedOrdRequirement}
 use Rattle.handle.specs.declared.Refusal as R
 use Rattle.arena.specs.Keys.{stored}
-use Rattle.arena.specs.inner.Slots.{handleOf, peekSlot}
+use Rattle.arena.specs.inner.Slots.{handleWith, peekSlot}
 use Rattle.arena.specs.Words.{field, GENERATION}
 use Rattle.arena.specs.declared.slots.Taken.{Taken}
 use Rattle.arena.specs.declared.slots.Taken as T
 use Rattle.insert.specs.inner.Kinds.{preparedNormal, preparedEmpty, preparedManual}
 use Rattle.insert.specs.declared.kinds.Prepared.{Prepared}
 use Rattle.insert.specs.declared.kinds.Prepared.the-variants.{Alone, Beside, Replace, Fail, NotSound}
-use Rattle.insert.specs.declared.ahead.Ahead.{Ahead}
-use Rattle.insert.specs.declared.ahead.Ahead.the-variants.{New, Replacing, Refused}
+use Rattle.handle.specs.declared.Ahead.{Ahead}
+use Rattle.handle.specs.declared.Ahead.the-variants.{New, Replacing, Refused}
 
 -- by the slot that would be taken
 abbrev pub newAs : Taken → Ahead
@@ -31,7 +31,7 @@ nextNew s cap = newAs (peekSlot s cap)
 abbrev pub lookedAhead : List ℕ → ℕ → Prepared → Ahead
 lookedAhead s cap Alone = nextNew s cap
 lookedAhead s cap (Beside p d) = nextNew s cap
-lookedAhead s cap (Replace p) = Replacing (handleOf p (field s cap p GENERATION))
+lookedAhead s cap (Replace p) = Replacing (handleWith p (field s cap p GENERATION))
 lookedAhead s cap Fail = Refused FailedOrdRequirement
 lookedAhead s cap NotSound = Refused R.the-variants.NotSound
 

@@ -11,20 +11,20 @@ use Rattle.handle.specs.declared.Refusal.the-variants.{NotWithinCapacity, Faile
 use Rattle.handle.specs.declared.Refusal as R
 use Rattle.arena.specs.inner.Entries.{entryPut}
 use Rattle.arena.specs.Keys.{stored}
-use Rattle.arena.specs.inner.Slots.{handleOf, takeSlot}
+use Rattle.arena.specs.inner.Slots.{handleWith, takeSlot}
 use Rattle.arena.specs.Words.{field, put, putHead, GENERATION, VALUE, ROOT}
 use Rattle.arena.specs.declared.slots.Taken.{Taken}
 use Rattle.arena.specs.declared.slots.Taken as T
 use Rattle.tree.specs.inner.Links.{withNode, withChild}
 use Rattle.chain.specs.inner.Links.{linkAlone, linkBeside}
-use Rattle.rebalance.specs.inner.Ranks.{rebalanced}
+use Rattle.raise.specs.inner.Ranks.{rebalanced}
 use Rattle.insert.specs.inner.Kinds.{preparedNormal, preparedEmpty, preparedManual}
 use Rattle.insert.specs.declared.kinds.Prepared.{Prepared}
 use Rattle.insert.specs.declared.kinds.Prepared.the-variants.{Alone, Beside, Replace, Fail, NotSound}
-use Rattle.insert.specs.declared.place.Inserted.{Inserted}
-use Rattle.insert.specs.declared.place.Inserted.the-variants.{New, Replacing, Refused}
-use Rattle.insert.specs.declared.ahead.Ahead.{Ahead}
-use Rattle.insert.specs.declared.ahead.Ahead as A
+use Rattle.handle.specs.declared.Inserted.{Inserted}
+use Rattle.handle.specs.declared.Inserted.the-variants.{New, Replacing, Refused}
+use Rattle.handle.specs.declared.Ahead.{Ahead}
+use Rattle.handle.specs.declared.Ahead as A
 
 -- the slot i as the whole queue
 unfoldable pub standAlone : List ℕ → ℕ → ℕ → ℤ → ℕ → List ℕ
@@ -60,25 +60,25 @@ besideAs cap p d key value s T.the-variants.NotSound = (s, Refused R.the-variant
 unfoldable pub placedBeside : List ℕ → ℕ → ℕ → ℕ → ℤ → ℕ → List ℕ × Inserted
 placedBeside s cap p d key value = let x = takeSlot s cap in besideAs cap p d key value (x .0) (x .1)
 
--- "Equal: the value is replaced, the old one returned, the handle kept, no slot used."
-unfoldable pub replaced : List ℕ → ℕ → ℕ → ℕ → List ℕ × Inserted
-replaced s cap i value = (put s cap i VALUE value, Replacing (handleOf i (field s cap i GENERATION)) (field s cap i VALUE))
+-- "Equal: the value is valueReplaced, the old one returned, the handle kept, no slot used."
+unfoldable pub valueReplaced : List ℕ → ℕ → ℕ → ℕ → List ℕ × Inserted
+valueReplaced s cap i value = (put s cap i VALUE value, Replacing (handleWith i (field s cap i GENERATION)) (field s cap i VALUE))
 
 abbrev pub applied : List ℕ → ℕ → Prepared → ℤ → ℕ → List ℕ × Inserted
 applied s cap Alone key value = placedAlone s cap key value
 applied s cap (Beside p d) key value = placedBeside s cap p d key value
-applied s cap (Replace p) key value = replaced s cap p value
+applied s cap (Replace p) key value = valueReplaced s cap p value
 applied s cap Fail key value = (s, Refused FailedOrdRequirement)
 applied s cap NotSound key value = (s, Refused R.the-variants.NotSound)
 
-unfoldable pub insertNormal : List ℕ → ℕ → ℤ → ℕ → List ℕ × Inserted
-insertNormal s cap key value = applied s cap (preparedNormal s cap (stored key)) key value
+unfoldable pub normalInserted : List ℕ → ℕ → ℤ → ℕ → List ℕ × Inserted
+normalInserted s cap key value = applied s cap (preparedNormal s cap (stored key)) key value
 
-unfoldable pub insertEmpty : List ℕ → ℕ → ℤ → ℕ → List ℕ × Inserted
-insertEmpty s cap key value = applied s cap (preparedEmpty s) key value
+unfoldable pub emptyInserted : List ℕ → ℕ → ℤ → ℕ → List ℕ × Inserted
+emptyInserted s cap key value = applied s cap (preparedEmpty s) key value
 
-unfoldable pub insertManual : List ℕ → ℕ → Handle → Side → ℤ → ℕ → List ℕ × Inserted
-insertManual s cap h side key value = applied s cap (preparedManual s cap h side (stored key)) key value
+unfoldable pub manualInserted : List ℕ → ℕ → Handle → Side → ℤ → ℕ → List ℕ × Inserted
+manualInserted s cap h side key value = applied s cap (preparedManual s cap h side (stored key)) key value
 
 -- what a look-ahead says of an answer
 abbrev pub asAhead : Inserted → Ahead

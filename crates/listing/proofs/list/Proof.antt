@@ -1,5 +1,5 @@
 use borrow.Author.Needs.{needs}
-use Rattle.arena.proofs.Answers.{passes-room}
+use Rattle.arena.proofs.SlotReads.{passes-room}
 use Rattle.listing.proofs.list.Statement.{statement}
 use Rattle.listing.proofs.list.Tie as tie
 

@@ -10,27 +10,27 @@ use Rattle.arena.specs.Branch.{ifte}
 use Rattle.arena.specs.Words.{field, put, LEFT, RIGHT, RANK, BACK}
 use Rattle.arena.specs.inner.Budget.{budget}
 use Rattle.tree.specs.inner.Climb.{onClimbed}
-use Rattle.tree.specs.inner.Links.{rankOf, sideOf}
+use Rattle.tree.specs.inner.Links.{rankOf, sideOfChild}
 use Rattle.tree.specs.declared.Climbed.{Climbed}
 use Rattle.tree.specs.declared.Climbed.the-variants.{Done, Up, NotSound}
-use Rattle.lower.specs.inner.Turns.{turnOnce, turnTwice}
+use Rattle.lower.specs.inner.Rotations.{turnOnce, turnTwice}
 
 -- where the climb goes on above p1, by the back link p2 of p1
 unfoldable pub goUpTo : List ℕ → ℕ → ℕ → ℕ → Climbed
-goUpTo s cap p1 p2 = ifte (ltb p2 cap) (Up p2 (sideOf s cap p2 p1)) Done
+goUpTo s cap p1 p2 = ifte (ltb p2 cap) (Up p2 (sideOfChild s cap p2 p1)) Done
 
 unfoldable pub goUp : List ℕ → ℕ → ℕ → Climbed
 goUp s cap p1 = goUpTo s cap p1 (field s cap p1 BACK)
 
 -- the store, and where the climb goes on above p1 in it
-unfoldable pub onward : List ℕ → ℕ → ℕ → List ℕ × Climbed
-onward s cap p1 = (s, goUp s cap p1)
+unfoldable pub upward : List ℕ → ℕ → ℕ → List ℕ × Climbed
+upward s cap p1 = (s, goUp s cap p1)
 
 unfoldable pub lowerOne : List ℕ → ℕ → ℕ → ℕ → List ℕ × Climbed
-lowerOne s cap p1 rank = onward (put s cap p1 RANK rank) cap p1
+lowerOne s cap p1 rank = upward (put s cap p1 RANK rank) cap p1
 
-unfoldable pub lowerBoth : List ℕ → ℕ → ℕ → ℕ → ℕ → List ℕ × Climbed
-lowerBoth s cap p1 s0 rank0 = lowerOne (put s cap s0 RANK (rank0 + 1)) cap p1 (rank0 + 2)
+unfoldable pub loweredBoth : List ℕ → ℕ → ℕ → ℕ → ℕ → List ℕ × Climbed
+loweredBoth s cap p1 s0 rank0 = lowerOne (put s cap s0 RANK (rank0 + 1)) cap p1 (rank0 + 2)
 
 -- by the children a and b of the sibling, their ranks, and n2 above n1
 unfoldable pub climbPastWith : List ℕ → ℕ → ℕ → ℕ → ℕ → ℕ → ℕ → ℕ → ℕ → ℕ → ℕ → ℕ → ℕ → ℕ → List ℕ × Climbed
@@ -38,7 +38,7 @@ climbPastWith s cap d p0 p1 s0 rank0 rank1 rs a b ra rb p2 =
     ifte (leb budget ra) (s, NotSound)
     (ifte (leb budget rb) (s, NotSound)
     (ifte (eqb (rb + 1) rs) (turnOnce s cap d p0 p1 p2 s0 a b ra rank1, Done)
-    (ifte (eqb (ra + 2) rs) (lowerBoth s cap p1 s0 rank0)
+    (ifte (eqb (ra + 2) rs) (loweredBoth s cap p1 s0 rank0)
     (ifte (leb cap a) (s, NotSound)
     (turnTwice s cap d p0 p1 p2 s0 a b ra rank1, Done)))))
 
@@ -70,8 +70,8 @@ climbTurn s cap p1 d =
     climbTurnWith s cap p1 d (field s cap p1 (LEFT + d)) (field s cap p1 (RIGHT - d)) (field s cap p1 RANK) (rankOf s cap (field s cap p1 (LEFT + d)))
 
 -- the climb at n1 with so many turns left
-unfoldable pub climbFrom : ℕ → List ℕ → ℕ → ℕ → ℕ → List ℕ × Bool
-climbFrom zero s cap p1 d = (s, false)
-climbFrom (suc fuel) s cap p1 d =
+unfoldable pub lowerFrom : ℕ → List ℕ → ℕ → ℕ → ℕ → List ℕ × Bool
+lowerFrom zero s cap p1 d = (s, false)
+lowerFrom (suc fuel) s cap p1 d =
     let x = climbTurn s cap p1 d in
-    onClimbed (x .1) (λ p2 d2. climbFrom fuel (x .0) cap p2 d2) (x .0)
+    onClimbed (x .1) (λ p2 d2. lowerFrom fuel (x .0) cap p2 d2) (x .0)

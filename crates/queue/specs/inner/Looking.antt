@@ -13,7 +13,7 @@ use Rattle.arena.specs.Branch.{ifte}
 use Rattle.arena.specs.Words.{field, GENERATION}
 use Rattle.arena.specs.Keys.{stored}
 use Rattle.arena.specs.Header.{headerOf}
-use Rattle.arena.specs.inner.Slots.{handleOf}
+use Rattle.arena.specs.inner.Slots.{handleWith}
 use Rattle.find.specs.inner.Seeking.{seekModel}
 use Rattle.find.specs.declared.Found.{Found}
 use Rattle.find.specs.declared.Found.the-variants as F
@@ -21,12 +21,12 @@ use Rattle.queue.specs.inner.Header.{onHeader}
 use Rattle.queue.specs.declared.looking.Searched.{Searched}
 use Rattle.queue.specs.declared.looking.Searched.the-variants as S
 use Rattle.remove.specs.inner.Remove.{readBy}
-use Rattle.remove.specs.declared.reading.Reading.{Reading}
-use Rattle.remove.specs.declared.reading.Reading.the-variants as D
+use Rattle.handle.specs.declared.Reading.{Reading}
+use Rattle.handle.specs.declared.Reading.the-variants as D
 
 -- the handle of the slot p
 unfoldable pub handleAt : List ℕ → ℕ → ℕ → Handle
-handleAt s cap p = handleOf p (field s cap p GENERATION)
+handleAt s cap p = handleWith p (field s cap p GENERATION)
 
 abbrev pub sideFor : ℕ → Side
 sideFor d = ifte (eqb d 0) Less Greater

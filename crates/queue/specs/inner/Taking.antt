@@ -5,8 +5,8 @@ use Rattle.handle.specs.declared.Handle.{Handle}
 use Rattle.handle.specs.declared.Refusal.the-variants as R
 use Rattle.arena.specs.Header.{headerOf}
 use Rattle.remove.specs.inner.Remove.{removeBy}
-use Rattle.remove.specs.declared.removing.Removed.{Removed}
-use Rattle.remove.specs.declared.removing.Removed.the-variants as D
+use Rattle.handle.specs.declared.Removed.{Removed}
+use Rattle.handle.specs.declared.Removed.the-variants as D
 use Rattle.queue.specs.inner.Header.{onHeader}
 
 unfoldable pub removeCall : List ℕ → Handle → List ℕ × Removed

@@ -7,7 +7,7 @@ use lib.Dec.{ltb, eqb}
 use Rattle.handle.specs.Numbers.{noSlot}
 use Rattle.arena.specs.Branch.{ifte}
 use Rattle.arena.specs.Words.{field, LEFT, RIGHT, RANK, BACK}
-use Rattle.tree.specs.inner.Links.{sideOf, withBack, withChild, withNode, relinked}
+use Rattle.tree.specs.inner.Links.{sideOfChild, withBack, withChild, withNode, relinked}
 use Rattle.remove.specs.declared.lifting.Lifted.{Lifted}
 
 -- the child of m, which has at most one
@@ -16,7 +16,7 @@ onlyChild s cap m = ifte (eqb (field s cap m LEFT) noSlot) (field s cap m RIGHT)
 
 -- the side on which m hangs under q
 unfoldable pub sideUnder : List ℕ → ℕ → ℕ → ℕ → ℕ
-sideUnder s cap q m = ifte (ltb q cap) (sideOf s cap q m) 0
+sideUnder s cap q m = ifte (ltb q cap) (sideOfChild s cap q m) 0
 
 -- c hangs on the side e of q, or is the root
 unfoldable pub hungUp : List ℕ → ℕ → ℕ → ℕ → ℕ → List ℕ
@@ -30,8 +30,8 @@ unfoldable pub liftOut : List ℕ → ℕ → ℕ → List ℕ × Lifted
 liftOut s cap m = liftWith s cap (onlyChild s cap m) (field s cap m BACK) (sideUnder s cap (field s cap m BACK) m)
 
 -- m under b, over l and r, with the rank k, where i stood
-unfoldable pub standing : List ℕ → ℕ → ℕ → ℕ → ℕ → ℕ → ℕ → ℕ → List ℕ
-standing s cap i m l r b k = relinked (withBack (withBack (withNode s cap 0 m b l r k) cap l m) cap r m) cap b i m
+unfoldable pub standsIn : List ℕ → ℕ → ℕ → ℕ → ℕ → ℕ → ℕ → ℕ → List ℕ
+standsIn s cap i m l r b k = relinked (withBack (withBack (withNode s cap 0 m b l r k) cap l m) cap r m) cap b i m
 
-unfoldable pub replaced : List ℕ → ℕ → ℕ → ℕ → List ℕ
-replaced s cap i m = standing s cap i m (field s cap i LEFT) (field s cap i RIGHT) (field s cap i BACK) (field s cap i RANK)
+unfoldable pub nodeReplaced : List ℕ → ℕ → ℕ → ℕ → List ℕ
+nodeReplaced s cap i m = standsIn s cap i m (field s cap i LEFT) (field s cap i RIGHT) (field s cap i BACK) (field s cap i RANK)

@@ -10,15 +10,15 @@ use Rattle.handle.specs.declared.Refusal as R
 use Rattle.arena.specs.Branch.{ifte}
 use Rattle.arena.specs.inner.Entries.{isLive, entryOf}
 use Rattle.arena.specs.inner.Slots.{freeSlot}
-use Rattle.arena.specs.declared.entries.Entry.{Entry}
+use Rattle.handle.specs.declared.Entry.{Entry}
 use Rattle.arena.specs.declared.slots.Freed.{Freed}
 use Rattle.arena.specs.declared.slots.Freed as F
 use Rattle.chain.specs.inner.Links.{unlinkSlot}
 use Rattle.remove.specs.inner.Take.{takeOut}
-use Rattle.remove.specs.declared.removing.Removed.{Removed}
-use Rattle.remove.specs.declared.removing.Removed as D
-use Rattle.remove.specs.declared.reading.Reading.{Reading}
-use Rattle.remove.specs.declared.reading.Reading as Q
+use Rattle.handle.specs.declared.Removed.{Removed}
+use Rattle.handle.specs.declared.Removed as D
+use Rattle.handle.specs.declared.Reading.{Reading}
+use Rattle.handle.specs.declared.Reading as Q
 
 -- the slot i out of the chain and freed
 unfoldable pub letGo : List ℕ → ℕ → ℕ → List ℕ × Freed

@@ -1,5 +1,5 @@
 use borrow.Author.Tests.{not-true, not-false}
-use Rattle.sound.proofs.Answers.{rules-high, rules-top, rules-unused, rules-slots, rules-tree}
+use Rattle.sound.proofs.TestReads.{rules-high, rules-top, rules-unused, rules-slots, rules-tree}
 use borrow.Author.Needs.{needs}
 use Rattle.sound.proofs.good_rules.Statement.{statement}
 use Rattle.sound.proofs.good_rules.Tie as tie

@@ -1,6 +1,6 @@
-use Rattle.arena.proofs.Answers.{passes-room}
+use Rattle.arena.proofs.SlotReads.{passes-room}
 use Rattle.sound.proofs.Decided.{decides}
-use Rattle.sound.proofs.Answers.{sound-asks, sound-fails}
+use Rattle.sound.proofs.TestReads.{sound-asks, sound-fails}
 use borrow.Author.Needs.{needs}
 use Rattle.sound.proofs.sound.Statement.{statement}
 use Rattle.sound.proofs.sound.Tie as tie

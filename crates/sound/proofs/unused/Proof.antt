@@ -2,7 +2,7 @@ use mathlib.Core.Path.{_≡_, refl}
 use Prim.Native.Nat.{_≤_}
 use native.Mathlib.Omega.{arith}
 use Rattle.sound.specs.inner.Check.{unusedTest}
-use Rattle.sound.proofs.Turns.{unused-end, unused-bad, unused-turn}
+use Rattle.sound.proofs.CheckTurns.{unused-end, unused-bad, unused-turn}
 use Rattle.sound.proofs.unused.Statement.{statement}
 use Rattle.sound.proofs.unused.Tie as tie
 

@@ -1,7 +1,7 @@
 use native.Mathlib.Omega.{arith}
 use Rattle.arena.proofs.Paths.{paths}
 use borrow.Author.Needs.{needs}
-use Rattle.tree.specs.inner.Links.{sideOf}
+use Rattle.tree.specs.inner.Links.{sideOfChild}
 use Rattle.tree.proofs.side_of.Statement.{statement}
 use Rattle.tree.proofs.side_of.Tie as tie
 
@@ -9,11 +9,11 @@ field-requires : tie.Need-field-requires
 field-requires c κs = search needs
 
 returns : tie.Need-returns
-unfolding sideOf
+unfolding sideOfChild
 returns c = (search paths depth 12, omega arith)
 
 returns-2 : tie.Need-returns-2
-unfolding sideOf
+unfolding sideOfChild
 returns-2 c = (search paths depth 12, omega arith)
 
 pub side-of-spec : {M : Type 1} → statement M

@@ -11,8 +11,8 @@ unfoldable pub rankOf : List ℕ → ℕ → ℕ → ℕ
 rankOf s cap p = ifte (eqb p noSlot) 0 (ifte (leb cap p) 0 (field s cap p RANK))
 
 -- the side of p's child c
-unfoldable pub sideOf : List ℕ → ℕ → ℕ → ℕ → ℕ
-sideOf s cap p c = ifte (eqb (field s cap p RIGHT) c) 1 0
+unfoldable pub sideOfChild : List ℕ → ℕ → ℕ → ℕ → ℕ
+sideOfChild s cap p c = ifte (eqb (field s cap p RIGHT) c) 1 0
 
 -- p, if it is a slot, has the back link b
 unfoldable pub withBack : List ℕ → ℕ → ℕ → ℕ → List ℕ
@@ -24,7 +24,7 @@ withChild s cap p d c = ifte (ltb p cap) (put s cap p (LEFT + d) c) (putHead s R
 
 -- the child `old` of p, or the root, becomes `new`
 unfoldable pub relinked : List ℕ → ℕ → ℕ → ℕ → ℕ → List ℕ
-relinked s cap p old new = withChild s cap p (sideOf s cap p old) new
+relinked s cap p old new = withChild s cap p (sideOfChild s cap p old) new
 
 -- the links and the rank of the slot i: `near` on the side d
 unfoldable pub withNode : List ℕ → ℕ → ℕ → ℕ → ℕ → ℕ → ℕ → ℕ → List ℕ

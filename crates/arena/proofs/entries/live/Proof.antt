@@ -1,7 +1,7 @@
 use Rattle.arena.specs.inner.Entries.{isLive}
 use Rattle.arena.proofs.Paths.{paths}
 use borrow.Author.Needs.{needs}
-use Rattle.arena.proofs.Answers.{live-asks}
+use Rattle.arena.proofs.SlotReads.{live-asks}
 use Rattle.arena.proofs.entries.live.Statement.{statement}
 use Rattle.arena.proofs.entries.live.Tie as tie
 

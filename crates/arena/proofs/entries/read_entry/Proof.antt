@@ -1,4 +1,4 @@
-use Rattle.arena.proofs.Answers.{entry-reads}
+use Rattle.arena.proofs.SlotReads.{entry-reads}
 use borrow.Author.Needs.{needs}
 use Rattle.arena.proofs.entries.read_entry.Statement.{statement}
 use Rattle.arena.proofs.entries.read_entry.Tie as tie

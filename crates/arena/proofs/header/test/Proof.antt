@@ -3,7 +3,7 @@ use Rattle.arena.specs.Header.{headerOf}
 use Rattle.arena.proofs.Paths.{paths}
 use native.Mathlib.Omega.{arith}
 use borrow.Author.Needs.{needs}
-use Rattle.arena.proofs.Answers.{header-short, header-passes, passing}
+use Rattle.arena.proofs.SlotReads.{header-short, header-passes, passing}
 use Rattle.arena.proofs.header.test.Statement.{statement}
 use Rattle.arena.proofs.header.test.Tie as tie
 

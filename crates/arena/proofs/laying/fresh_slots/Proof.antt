@@ -3,7 +3,7 @@ use Prim.Native.Nat.{_-_}
 use native.Mathlib.Omega.{arith}
 use lib.ListN.{length}
 use Rattle.arena.specs.inner.Laying.{laySlots}
-use Rattle.arena.proofs.Turns.{slots-start, slots-turn, slots-end}
+use Rattle.arena.proofs.LayingTurns.{slots-start, slots-turn, slots-end}
 use Rattle.arena.proofs.laying.fresh_slots.Statement.{statement}
 use Rattle.arena.proofs.laying.fresh_slots.Tie as tie
 

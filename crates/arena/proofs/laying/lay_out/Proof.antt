@@ -1,7 +1,7 @@
 use native.Mathlib.Omega.{arith}
 use Rattle.handle.proofs.Limits.{limit-fits}
 use Rattle.arena.proofs.Paths.{tested}
-use Rattle.arena.proofs.Answers.{good-yes, lay-done, lay-refused}
+use Rattle.arena.proofs.SlotReads.{good-yes, lay-done, lay-refused}
 use borrow.Author.Needs.{needs}
 use Rattle.arena.proofs.laying.lay_out.Statement.{statement}
 use Rattle.arena.proofs.laying.lay_out.Tie as tie

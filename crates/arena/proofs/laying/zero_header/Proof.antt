@@ -4,7 +4,7 @@ use native.Mathlib.Omega.{arith}
 use lib.ListN.{length}
 use Rattle.arena.specs.Words.{headWords}
 use Rattle.arena.specs.inner.Laying.{zeroed}
-use Rattle.arena.proofs.Turns.{zero-turn, zero-end}
+use Rattle.arena.proofs.LayingTurns.{zero-turn, zero-end}
 use Rattle.arena.proofs.laying.zero_header.Statement.{statement}
 use Rattle.arena.proofs.laying.zero_header.Tie as tie
 

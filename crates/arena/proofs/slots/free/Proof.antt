@@ -1,6 +1,6 @@
 use Rattle.arena.specs.inner.Slots.{freeWith}
 use Rattle.arena.proofs.Paths.{paths, wrote}
-use Rattle.arena.proofs.Answers.{free-reads}
+use Rattle.arena.proofs.SlotReads.{free-reads}
 use borrow.Author.Needs.{needs}
 use Rattle.arena.proofs.slots.free.Statement.{statement}
 use Rattle.arena.proofs.slots.free.Tie as tie

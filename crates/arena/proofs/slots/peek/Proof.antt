@@ -1,5 +1,5 @@
 use Rattle.arena.specs.inner.Slots.{foundAt, peekFrom}
-use Rattle.arena.proofs.Answers.{peek-reads, peek-slot, peek-at, found-in}
+use Rattle.arena.proofs.SlotReads.{peek-reads, peek-slot, peek-at, found-in}
 use Rattle.arena.proofs.Paths.{paths}
 use borrow.Author.Needs.{needs}
 use Rattle.arena.proofs.slots.peek.Statement.{statement}

@@ -1,4 +1,4 @@
-use Rattle.arena.proofs.Answers.{push-is}
+use Rattle.arena.proofs.SlotReads.{push-is}
 use borrow.Author.Needs.{needs}
 use Rattle.arena.proofs.slots.push.Statement.{statement}
 use Rattle.arena.proofs.slots.push.Tie as tie

@@ -1,5 +1,5 @@
 use native.Mathlib.Omega.{arith}
-use Rattle.arena.proofs.Answers.{take-at, take-full, take-unsound, found-low, found-place, found-slot}
+use Rattle.arena.proofs.SlotReads.{take-at, take-full, take-unsound, found-low, found-place, found-slot}
 use borrow.Author.Needs.{needs}
 use Rattle.arena.proofs.slots.take.Statement.{statement}
 use Rattle.arena.proofs.slots.take.Tie as tie

@@ -1,4 +1,4 @@
-use Rattle.arena.proofs.Answers.{handle-is}
+use Rattle.arena.proofs.SlotReads.{handle-is}
 use borrow.Author.Needs.{needs}
 use Rattle.insert.proofs.ahead.name.Statement.{statement}
 use Rattle.insert.proofs.ahead.name.Tie as tie

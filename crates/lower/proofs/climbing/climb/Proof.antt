@@ -4,7 +4,7 @@ use native.Mathlib.Omega.{arith}
 use borrow.Author.Needs.{needs}
 use lib.ListN.{length}
 use Rattle.arena.specs.inner.Budget.{budget}
-use Rattle.lower.specs.inner.Climb.{climbFrom}
+use Rattle.lower.specs.inner.Climb.{lowerFrom}
 use Rattle.tree.proofs.Climb.{up-low, up-side}
 use Rattle.lower.proofs.ClimbLoop.{again, ended, refused, spent}
 use Rattle.lower.proofs.climbing.climb.Statement.{statement}
@@ -12,7 +12,7 @@ use Rattle.lower.proofs.climbing.climb.Tie as tie
 
 abbrev Inv-climb : tie.InvT-climb
 Inv-climb s₀ cap start side p1₀ d₀ n₀ s p1 d n =
-    (n ≤ budget) × (length s ≡ length s₀) × (p1 < cap) × (d ≤ 1) × (climbFrom (budget - n) s cap p1 d ≡ climbFrom budget s₀ cap start side)
+    (n ≤ budget) × (length s ≡ length s₀) × (p1 < cap) × (d ≤ 1) × (lowerFrom (budget - n) s cap p1 d ≡ lowerFrom budget s₀ cap start side)
 
 abbrev μ-climb : tie.MeasureT-climb
 μ-climb s₀ cap start side p1₀ d₀ n₀ s p1 d n = budget - n

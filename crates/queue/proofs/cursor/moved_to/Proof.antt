@@ -1,4 +1,4 @@
-use Rattle.queue.proofs.Answers.{moved-at, moved-end, moved-unsound}
+use Rattle.queue.proofs.CallReads.{moved-at, moved-end, moved-unsound}
 use borrow.Author.Needs.{needs}
 use Rattle.queue.proofs.cursor.moved_to.Statement.{statement}
 use Rattle.queue.proofs.cursor.moved_to.Tie as tie

@@ -1,6 +1,6 @@
-use Rattle.arena.proofs.Answers.{passes-room}
+use Rattle.arena.proofs.SlotReads.{passes-room}
 use Rattle.queue.specs.inner.Moving.{startCall}
-use Rattle.queue.proofs.Answers.{on-passes, on-fails, moved-by}
+use Rattle.queue.proofs.CallReads.{on-passes, on-fails, moved-by}
 use borrow.Author.Needs.{needs}
 use Rattle.queue.proofs.cursor.start.Statement.{statement}
 use Rattle.queue.proofs.cursor.start.Tie as tie

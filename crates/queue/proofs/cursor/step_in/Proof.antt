@@ -1,5 +1,5 @@
 use Rattle.queue.specs.inner.Moving.{stepIn}
-use Rattle.queue.proofs.Answers.{live-slot, if-live, if-dead, moved-by}
+use Rattle.queue.proofs.CallReads.{live-slot, if-live, if-dead, moved-by}
 use borrow.Author.Needs.{needs}
 use Rattle.queue.proofs.cursor.step_in.Statement.{statement}
 use Rattle.queue.proofs.cursor.step_in.Tie as tie

@@ -1,5 +1,5 @@
 use Rattle.queue.specs.inner.Looking.{handleAt}
-use Rattle.arena.proofs.Answers.{handle-is}
+use Rattle.arena.proofs.SlotReads.{handle-is}
 use borrow.Author.Needs.{needs}
 use Rattle.queue.proofs.looking.handle_at.Statement.{statement}
 use Rattle.queue.proofs.looking.handle_at.Tie as tie

@@ -1,6 +1,6 @@
-use Rattle.arena.proofs.Answers.{passes-room}
+use Rattle.arena.proofs.SlotReads.{passes-room}
 use Rattle.queue.specs.inner.Looking.{searchCall}
-use Rattle.queue.proofs.Answers.{on-passes, on-fails, searched-key}
+use Rattle.queue.proofs.CallReads.{on-passes, on-fails, searched-key}
 use Rattle.queue.proofs.Promising.{search-looks}
 use borrow.Author.Needs.{needs}
 use Rattle.queue.proofs.looking.search.Statement.{statement}

@@ -1,4 +1,4 @@
-use Rattle.queue.proofs.Answers.{equal-slot, beside-slot, searched-equal, searched-less, searched-greater, searched-empty, searched-unsound}
+use Rattle.queue.proofs.CallReads.{equal-slot, beside-slot, searched-equal, searched-less, searched-greater, searched-empty, searched-unsound}
 use borrow.Author.Needs.{needs}
 use Rattle.queue.proofs.looking.search_in.Statement.{statement}
 use Rattle.queue.proofs.looking.search_in.Tie as tie

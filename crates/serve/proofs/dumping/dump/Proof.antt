@@ -1,5 +1,5 @@
 use borrow.Author.Needs.{needs}
-use Rattle.arena.proofs.Answers.{passes-room}
+use Rattle.arena.proofs.SlotReads.{passes-room}
 use Rattle.serve.proofs.dumping.dump.Statement.{statement}
 use Rattle.serve.proofs.dumping.dump.Tie as tie
 

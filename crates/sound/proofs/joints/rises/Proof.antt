@@ -1,4 +1,4 @@
-use Rattle.sound.proofs.Answers.{lt-asks}
+use Rattle.sound.proofs.TestReads.{lt-asks}
 use Rattle.arena.proofs.Paths.{paths}
 use Rattle.sound.specs.inner.Joints.{risesTest}
 use borrow.Author.Needs.{needs}

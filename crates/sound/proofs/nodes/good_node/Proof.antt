@@ -1,4 +1,4 @@
-use Rattle.sound.proofs.Answers.{generation-asks}
+use Rattle.sound.proofs.TestReads.{generation-asks}
 use Rattle.arena.proofs.Paths.{paths}
 use Rattle.sound.specs.inner.Nodes.{nodeTest}
 use borrow.Author.Needs.{needs}

@@ -1,4 +1,4 @@
-use Rattle.sound.proofs.Answers.{ranks-reads}
+use Rattle.sound.proofs.TestReads.{ranks-reads}
 use borrow.Author.Needs.{needs}
 use Rattle.sound.proofs.nodes.good_ranks.Statement.{statement}
 use Rattle.sound.proofs.nodes.good_ranks.Tie as tie

@@ -1,5 +1,5 @@
 use Rattle.arena.proofs.Paths.{paths}
-use Rattle.sound.proofs.Answers.{rest-reads}
+use Rattle.sound.proofs.TestReads.{rest-reads}
 use Rattle.sound.specs.inner.Slots.{restWith}
 use borrow.Author.Needs.{needs}
 use Rattle.sound.proofs.slots.at_rest.Statement.{statement}

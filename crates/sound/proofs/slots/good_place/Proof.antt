@@ -1,5 +1,5 @@
 use Rattle.arena.proofs.Paths.{paths}
-use Rattle.sound.proofs.Answers.{place-reads, place-asks}
+use Rattle.sound.proofs.TestReads.{place-reads, place-asks}
 use Rattle.sound.specs.inner.Slots.{placeWith}
 use borrow.Author.Needs.{needs}
 use Rattle.sound.proofs.slots.good_place.Statement.{statement}

@@ -3,7 +3,7 @@ use mathlib.Core.Path.{_≡_, refl}
 use Prim.Native.Nat.{_≤_}
 use native.Mathlib.Omega.{arith}
 use Rattle.sound.specs.inner.Slots.{slotsTest}
-use Rattle.sound.proofs.Turns.{slots-end, slots-bad, place-bad, slots-turn}
+use Rattle.sound.proofs.CheckTurns.{slots-end, slots-bad, place-bad, slots-turn}
 use Rattle.sound.proofs.slots.good_slots.Statement.{statement}
 use Rattle.sound.proofs.slots.good_slots.Tie as tie
 

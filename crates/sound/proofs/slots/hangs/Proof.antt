@@ -1,5 +1,5 @@
 use Rattle.arena.proofs.Paths.{paths}
-use Rattle.sound.proofs.Answers.{eq-asks, hangs-reads}
+use Rattle.sound.proofs.TestReads.{eq-asks, hangs-reads}
 use Rattle.sound.specs.inner.Slots.{hangsWith}
 use borrow.Author.Needs.{needs}
 use Rattle.arena.specs.inner.Budget.{budget}

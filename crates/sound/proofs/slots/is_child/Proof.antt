@@ -1,4 +1,4 @@
-use Rattle.sound.proofs.Answers.{eq-asks}
+use Rattle.sound.proofs.TestReads.{eq-asks}
 use Rattle.arena.proofs.Paths.{paths}
 use Rattle.sound.specs.inner.Slots.{childTest}
 use borrow.Author.Needs.{needs}

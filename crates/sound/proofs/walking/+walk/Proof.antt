@@ -1,7 +1,7 @@
 use borrow.Author.Tests.{not-true, not-false}
 use native.Mathlib.Omega.{arith}
 use borrow.Author.Needs.{needs}
-use Rattle.sound.proofs.Turns.{node-low, walk-tip, walk-spent, walk-refused, walk-broken, walk-apart, walk-on}
+use Rattle.sound.proofs.CheckTurns.{node-low, walk-tip, walk-spent, walk-refused, walk-broken, walk-apart, walk-on}
 use Prim.Native.Nat.{ℕ, _<_}
 use borrow.Fn.Kinds.{In}
 use borrow.Fn.PlainCycle.{Measures, is, falls, and}

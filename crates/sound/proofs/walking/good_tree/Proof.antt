@@ -1,4 +1,4 @@
-use Rattle.sound.proofs.Turns.{whole-on, whole-broken}
+use Rattle.sound.proofs.CheckTurns.{whole-on, whole-broken}
 use borrow.Author.Needs.{needs}
 use Rattle.arena.specs.inner.Budget.{budget}
 use Rattle.sound.proofs.walking.good_tree.Statement.{statement}

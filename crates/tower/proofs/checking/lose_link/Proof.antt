@@ -1,4 +1,4 @@
-use Rattle.arena.proofs.Answers.{passes-room}
+use Rattle.arena.proofs.SlotReads.{passes-room}
 use borrow.Author.Needs.{needs}
 use Rattle.tower.proofs.checking.lose_link.Statement.{statement}
 use Rattle.tower.proofs.checking.lose_link.Tie as tie

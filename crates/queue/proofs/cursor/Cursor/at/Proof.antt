@@ -1,6 +1,6 @@
-use Rattle.arena.proofs.Answers.{passes-room}
+use Rattle.arena.proofs.SlotReads.{passes-room}
 use Rattle.queue.specs.inner.Moving.{standCall, standIn}
-use Rattle.queue.proofs.Answers.{on-passes, on-fails, if-live, if-dead}
+use Rattle.queue.proofs.CallReads.{on-passes, on-fails, if-live, if-dead}
 use Rattle.queue.proofs.Promising.{stand-looks}
 use borrow.Author.Needs.{needs}
 use Rattle.queue.proofs.cursor.Cursor.at.Statement.{statement}

@@ -1,0 +1,15 @@
+pub mod AnswerWords
+pub mod Restructured
+pub mod RaiseTurns
+pub mod Climbing
+pub mod Rebalanced
+pub mod Hanging
+pub mod Hung
+pub mod Beside
+pub mod Added
+pub mod Swapped
+pub mod Plans
+pub mod Preparing
+pub mod Neighbours
+pub mod Manual
+pub mod Theorems

@@ -1,0 +1,3 @@
+-- Models, and what serves proofs alone: nothing in this folder need be believed (docs/TRUST.md).
+pub mod Ranks
+pub mod Restructures

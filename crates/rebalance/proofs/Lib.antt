@@ -1,3 +1,0 @@
-pub mod Climbs
-pub mod Fixes
-pub mod Laws

@@ -1,3 +1,0 @@
--- Models, and what serves proofs alone: nothing in this folder need be believed (docs/TRUST.md).
-pub mod Ranks
-pub mod Turns

@@ -1,0 +1,15 @@
+pub mod Kept
+pub mod RotationWords
+pub mod Lowered
+pub mod Turning
+pub mod Climbing
+pub mod Climbs
+pub mod Settled
+pub mod Lifted
+pub mod Standing
+pub mod Filled
+pub mod Ends
+pub mod TakesOut
+pub mod Unchained
+pub mod Released
+pub mod Means
