@@ -10,13 +10,9 @@ use crate::words::GENERATION;
 use crate::words::KEY;
 use crate::words::RANK;
 use crate::words::VALUE;
+use handle::Entry;
 use handle::Handle;
 use handle::Key;
-
-pub struct Entry {
-    pub key: Key,
-    pub value: u64,
-}
 
 // Whether h names a live entry: its slot has a rank and is in h's generation.
 pub fn live(s: &[u64], cap: u64, h: Handle) -> bool

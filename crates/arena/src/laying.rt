@@ -25,13 +25,9 @@ use crate::words::TOP;
 use crate::words::VALUE;
 use handle::Handle;
 use handle::LIMIT;
+use handle::LaidOut;
 use handle::Refusal;
 use handle::TOP_LIMIT;
-
-pub enum LaidOut {
-    Done,
-    Refused(Refusal),
-}
 
 // The links and the rank of a slot without an entry. BACK holds b.
 fn unlink(s: &mut [u64], cap: u64, i: u64, b: u64)

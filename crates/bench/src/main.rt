@@ -1,11 +1,11 @@
 // Document 01's "Runs on the bench" that are not proved but run: what laying out refuses, and the whole listing of run A.
 // The stored output beside src/ is written from document 01.
-use handle::LaidOut;
 use arena::words::FIELDS;
 use arena::words::STORE;
+use handle::Inserted;
 use handle::Key;
 use handle::LIMIT;
-use handle::Inserted;
+use handle::LaidOut;
 use output::say;
 use queue::placing;
 

@@ -1,13 +1,13 @@
 // The commands that look: the look-ahead, `get`, `find`, steps along the chain by the cursor, and `check`.
 use answers::answer::Answer;
 use arena::words::STORE;
-use handle::Key;
-use handle::Side;
 use handle::Ahead;
+use handle::Key;
+use handle::Reading;
+use handle::Side;
 use queue::cursor::Cursor;
 use queue::cursor::Moved;
 use queue::looking::Searched;
-use handle::Reading;
 use script::command::Place;
 use script::table;
 use script::table::TABLE;

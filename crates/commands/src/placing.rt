@@ -1,11 +1,11 @@
 // The commands that change the queue: `new`, the three insertions, `rem`.
 use answers::answer::Answer;
-use handle::LaidOut;
 use arena::words::STORE;
-use handle::Key;
 use handle::Inserted;
-use queue::taking;
+use handle::Key;
+use handle::LaidOut;
 use handle::Removed;
+use queue::taking;
 use script::command::Place;
 use script::table;
 use script::table::TABLE;

@@ -3,13 +3,13 @@
 use arena::header;
 use arena::header::Header;
 use arena::laying;
-use handle::LaidOut;
 use arena::slots;
 use arena::slots::Freed;
 use arena::slots::Taken;
 use arena::words::FIELDS;
 use arena::words::STORE;
 use handle::LIMIT;
+use handle::LaidOut;
 use handle::TOP_LIMIT;
 use output::say;
 

@@ -42,6 +42,50 @@ pub enum Refusal {
     BadTime,
 }
 
+// What an entry holds.
+pub struct Entry {
+    pub key: Key,
+    pub value: u64,
+}
+
+// How many numbers a capacity takes, or 4.
+pub enum Needed {
+    Numbers(u64),
+    Refused(Refusal),
+}
+
+pub enum LaidOut {
+    Done,
+    Refused(Refusal),
+}
+
+// "Any insertion answers New or Replacing with the handle, and the old value if replacing."
+pub enum Inserted {
+    New(Handle),
+    Replacing(Handle, u64),
+    Refused(Refusal),
+}
+
+// What an insertion would answer next: "New or Replacing with the handle, or the refusal".
+pub enum Ahead {
+    New(Handle),
+    Replacing(Handle),
+    Refused(Refusal),
+}
+
+// The removed entry; the same with the note that its slot had the top generation and is retired; or why not.
+pub enum Removed {
+    Entry(Entry),
+    GenerationOverflow(Entry),
+    Refused(Refusal),
+}
+
+// "Reading and removal answer key and value."
+pub enum Reading {
+    Entry(Entry),
+    Refused(Refusal),
+}
+
 impl Handle {
     // The slot number that stands for no slot.
     pub const NO_SLOT: u64 = 65535;

@@ -2,18 +2,18 @@
 // specs/inner/Told.antt, whatever the row held.
 ghost use mathlib.Core.Path.{_≡_};
 ghost use Rattle.host_numbers.specs.inner.Told.{row, handleTold, entryTold, refusedTold, laidOutTold, insertedTold, aheadTold, removedTold, readingTold, sideCode, searchedTold, movedTold};
-use handle::Entry;
 use arena::keys;
-use handle::LaidOut;
-use handle::Handle;
-use handle::Refusal;
-use handle::Side;
 use handle::Ahead;
+use handle::Entry;
+use handle::Handle;
 use handle::Inserted;
+use handle::LaidOut;
+use handle::Reading;
+use handle::Refusal;
+use handle::Removed;
+use handle::Side;
 use queue::cursor::Moved;
 use queue::looking::Searched;
-use handle::Reading;
-use handle::Removed;
 
 fn put_row(a: &mut [u64; 4], x: u64, y: u64, z: u64)
     ensures { λ _. ⌜ now (a .exit) ≡ row x y z ⌝ }

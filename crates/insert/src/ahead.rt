@@ -14,19 +14,13 @@ use arena::slots;
 use arena::slots::Taken;
 use arena::words;
 use arena::words::GENERATION;
+use handle::Ahead;
 use handle::Generation;
 use handle::Handle;
 use handle::Key;
 use handle::Refusal;
 use handle::Side;
 use handle::Slot;
-
-// "New or Replacing with the handle, or the refusal".
-pub enum Ahead {
-    New(Handle),
-    Replacing(Handle),
-    Refused(Refusal),
-}
 
 // The handle of the slot i, in its generation.
 pub fn name(s: &[u64], cap: u64, i: u64) -> Handle

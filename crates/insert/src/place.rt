@@ -17,17 +17,11 @@ use arena::words;
 use arena::words::ROOT;
 use arena::words::VALUE;
 use handle::Handle;
+use handle::Inserted;
 use handle::Key;
 use handle::Refusal;
 use handle::Side;
 use raise::ranks;
-
-// "Any insertion answers New or Replacing with the handle, and the old value if replacing."
-pub enum Inserted {
-    New(Handle),
-    Replacing(Handle, u64),
-    Refused(Refusal),
-}
 
 // The slot i becomes the whole queue: an entry of rank 1 with no neighbour.
 fn stand_alone(s: &mut [u64], cap: u64, i: u64, key: Key, value: u64)

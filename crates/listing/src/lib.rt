@@ -8,6 +8,7 @@ use arena::words;
 use arena::words::HEIGHT;
 use arena::words::RANK;
 use handle::Handle;
+use handle::Reading;
 use handle::Refusal;
 use output::out;
 use output::out::ROOM;
@@ -15,7 +16,6 @@ use output::say;
 use queue::cursor::Cursor;
 use queue::cursor::Moved;
 use queue::looking;
-use handle::Reading;
 
 // Lists at once on standard output.
 pub fn print(s: &[u64]) {

@@ -1,12 +1,17 @@
 -- The promise of each public call, by name: its model, its reading in document 01's terms, and document 01's rule (crate `rules`).
-use Prim.Native.Nat.{ℕ}
+use Prim.Native.Nat.{ℕ, _≤_}
+use mathlib.Core.Bool.{Bool}
 use mathlib.Core.Path.{_≡_}
 use mathlib.Core.List.{List}
 use lib.IntN.{ℤ}
 use lib.ListN.{length}
+use Rattle.handle.specs.Numbers.{limit}
 use Rattle.handle.specs.declared.Handle.{Handle}
 use Rattle.handle.specs.declared.Side.{Side}
 use Rattle.handle.specs.declared.Refusal.the-variants.{NotSound, BadLayout}
+use Rattle.handle.specs.declared.Needed.{Needed}
+use Rattle.handle.specs.declared.Needed.the-variants as N
+use Rattle.arena.specs.Words.{need}
 use Rattle.arena.specs.Keys.{stored}
 use Rattle.arena.specs.Laying.{GoodLayout, Fresh}
 use Rattle.arena.specs.inner.Laying.{layOutWords}
@@ -30,6 +35,7 @@ use Rattle.queue_of_store.specs.Handles.{plain}
 use Rattle.queue_of_store.specs.Holds.{Holds}
 use Rattle.insert_means.specs.Meaning.{insertedMeans, aheadMeans, sideMeans}
 use Rattle.remove_means.specs.Meaning.{removedMeans, readMeans}
+use Rattle.sound.specs.Decides.{Decides}
 use Rattle.queue.specs.Promises.{enoughIn, Writes, Looks}
 use Rattle.queue.specs.Readings.{laidMeans, searchMeans, movedMeans}
 use Rattle.queue.specs.inner.Placing.{insertCall, emptyCall, manualCall, aheadCall, aheadEmptyCall, aheadManualCall}
@@ -40,6 +46,11 @@ use Rattle.queue.specs.declared.looking.Searched.{Searched}
 use Rattle.queue.specs.declared.looking.Searched.the-variants as S
 use Rattle.queue.specs.declared.cursor.Moved.{Moved}
 use Rattle.queue.specs.declared.cursor.Moved.the-variants as M
+
+-- How many numbers a capacity takes: what laying out asks of a store's length (`room` of GoodLayout). "capacity 1 to 1,024 slots": 4 outside
+pub record NeedPromise (capacity : ℕ) (r : Needed) : Type 0 where
+  pub tells : 1 ≤ capacity → capacity ≤ limit → r ≡ N.Numbers (need capacity)
+  pub refuses : ¬ ((1 ≤ capacity) × (capacity ≤ limit)) → r ≡ N.Refused BadLayout
 
 -- Laying out, on every store: "BadLayout: laying out with capacity or top generation out of range, or a store too short", and then
 -- nothing changes; else the store holds the fresh queue, and `Fresh` says every word of it.
@@ -95,3 +106,7 @@ BackPromise s h r = Looks (M.Refused NotSound) (stepCall s h 0) movedMeans (step
 
 abbrev pub ForwardPromise : List ℕ → Handle → Moved → Type 0
 ForwardPromise s h r = Looks (M.Refused NotSound) (stepCall s h 1) movedMeans (stepTo right (plain h)) s r
+
+-- the check's promise stands with the check, in crate `sound`
+abbrev pub CheckPromise : List ℕ → Bool → Type 0
+CheckPromise s r = Decides s r

@@ -1,8 +1,8 @@
-// Search and reading: they look and change nothing.
+// Search, reading and the check: they look and change nothing.
 // From the Rust: find_similar_key of ord/find.rs, and reading by pointer.
 ghost use mathlib.Core.Path.{_≡_};
 ghost use Rattle.arena.specs.Words.{Room};
-ghost use Rattle.queue.specs.Promised.{SearchPromise, ReadPromise};
+ghost use Rattle.queue.specs.Promised.{CheckPromise, SearchPromise, ReadPromise};
 ghost use Rattle.queue.specs.inner.Looking.{searched, handleAt};
 ghost use Prim.Native.Nat.{_<_};
 use arena::header;
@@ -14,11 +14,11 @@ use find::Found;
 use handle::Generation;
 use handle::Handle;
 use handle::Key;
+use handle::Reading;
 use handle::Refusal;
 use handle::Side;
 use handle::Slot;
 use remove::reading;
-use handle::Reading;
 
 // What a search answers: the entry with an equal key, or the last one looked at and the side of it on which the key lies. The
 // number is how many entries were looked at.
@@ -77,6 +77,13 @@ pub fn search(s: &[u64], key: Key) -> Searched
             return Searched::Refused(Refusal::NotSound);
         }
     }
+}
+
+// Whether the store is sound.
+pub fn check(s: &[u64]) -> bool
+    ensures { λ r. ⌜ CheckPromise (now (s .entry)) r ⌝ }
+{
+    sound::sound(s)
 }
 
 // The key and the value of the entry that h names.

@@ -1,18 +1,35 @@
 // Laying out, the three kinds of insertion, and the look-ahead of each.
 // From the Rust: OrdInsertKind and the entry of ord/insert.rs.
-ghost use Rattle.queue.specs.Promised.{LayOutPromise, InsertPromise, EmptyPromise, ManualPromise, AheadPromise, AheadEmptyPromise, AheadManualPromise};
+ghost use Rattle.queue.specs.Promised.{NeedPromise, LayOutPromise, InsertPromise, EmptyPromise, ManualPromise, AheadPromise, AheadEmptyPromise, AheadManualPromise};
 use arena::header;
 use arena::header::Header;
 use arena::laying;
-use handle::LaidOut;
+use arena::words::FIELDS;
+use arena::words::HEAD_WORDS;
+use handle::Ahead;
 use handle::Handle;
+use handle::Inserted;
 use handle::Key;
+use handle::LIMIT;
+use handle::LaidOut;
+use handle::Needed;
 use handle::Refusal;
 use handle::Side;
 use insert::ahead;
-use handle::Ahead;
 use insert::place;
-use handle::Inserted;
+
+// How many numbers a store of that capacity takes.
+pub fn numbers_needed(capacity: u64) -> Needed
+    ensures { λ r. ⌜ NeedPromise capacity r ⌝ }
+{
+    if capacity < 1 {
+        return Needed::Refused(Refusal::BadLayout);
+    }
+    if LIMIT < capacity {
+        return Needed::Refused(Refusal::BadLayout);
+    }
+    Needed::Numbers(HEAD_WORDS + capacity * FIELDS)
+}
 
 // Makes an empty queue of a lent store, whatever it held.
 pub fn lay_out(s: &mut [u64], capacity: u64, top: u64) -> LaidOut

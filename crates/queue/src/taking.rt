@@ -5,8 +5,8 @@ use arena::header;
 use arena::header::Header;
 use handle::Handle;
 use handle::Refusal;
-use remove::removing;
 use handle::Removed;
+use remove::removing;
 
 // Takes out the entry that h names.
 pub fn remove(s: &mut [u64], h: Handle) -> Removed

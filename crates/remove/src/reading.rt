@@ -6,12 +6,8 @@ ghost use Rattle.remove.specs.inner.Remove.{readBy};
 use arena::entries;
 use handle::Entry;
 use handle::Handle;
+use handle::Reading;
 use handle::Refusal;
-
-pub enum Reading {
-    Entry(Entry),
-    Refused(Refusal),
-}
 
 // The entry that h names.
 pub fn read(s: &[u64], cap: u64, h: Handle) -> Reading

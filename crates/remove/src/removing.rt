@@ -7,18 +7,12 @@ ghost use Rattle.arena.specs.Words.{Room};
 ghost use Rattle.remove.specs.inner.Remove.{letGo, removeLive, removeBy};
 use crate::taking;
 use arena::entries;
-use handle::Entry;
 use arena::slots;
 use arena::slots::Freed;
+use handle::Entry;
 use handle::Handle;
 use handle::Refusal;
-
-// The removed entry; the same with the note that its slot had the top generation and is retired; or why not.
-pub enum Removed {
-    Entry(Entry),
-    GenerationOverflow(Entry),
-    Refused(Refusal),
-}
+use handle::Removed;
 
 // The slot i leaves the chain and is freed.
 fn let_go(s: &mut [u64], cap: u64, i: u64) -> Freed

@@ -1,7 +1,7 @@
 // The tower's clock: the day of this evening, its offset, and times and strikes as a clockmaker writes them.
-use handle::Entry;
 use due::Time;
 use due::TimeAnswer;
+use handle::Entry;
 use handle::Refusal;
 use output::say;
 use output::signs;

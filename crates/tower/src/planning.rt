@@ -1,12 +1,12 @@
 // Laying out and planning: each call is told in one line, what was asked for and what the queue answered.
 use crate::clock;
-use handle::LaidOut;
 use due::KeyAnswer;
 use handle::Handle;
+use handle::Inserted;
 use handle::Key;
+use handle::LaidOut;
 use handle::Refusal;
 use handle::Side;
-use handle::Inserted;
 use output::say;
 use queue::placing;
 

@@ -2,13 +2,13 @@
 use crate::clock;
 use handle::Handle;
 use handle::LIMIT;
+use handle::Reading;
+use handle::Removed;
 use output::say;
 use queue::cursor::Cursor;
 use queue::cursor::Moved;
 use queue::looking;
 use queue::taking;
-use handle::Reading;
-use handle::Removed;
 
 // Takes out the strike that h names.
 pub fn take(s: &mut [u64], h: Handle) {
