@@ -1,6 +1,6 @@
 // Due times (document 01, "Due times"): keys of local times and local times of keys, over signed 64-bit numbers.
 // A reader may rely on `key_of` and `time_of` giving, for every input, what `toKey` and `fromKey` of specs/Due
-// say; nothing overflows on any numbers. Keys are plain i64 here, and the queue's crates wrap them where they want to.
+// say; nothing overflows on any numbers. Keys are plain i64 here, and a caller wraps them for the queue.
 
 ghost use mathlib.Core.Path.{_≡_};
 ghost use Prim.Native.Nat.{_<_};

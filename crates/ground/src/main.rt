@@ -122,7 +122,7 @@ fn last_first(s: &mut [u64]) {
 // Words for one slot more than the limit, so that it is the limit that refuses it.
 const WIDE: usize = STORE + FIELDS as usize;
 
-// One word is wanting for the most slots.
+// One word is missing for the most slots.
 fn lay_short(s: &mut [u64]) {
     let end = STORE - 1;
     if end <= s.len() {

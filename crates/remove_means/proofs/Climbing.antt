@@ -28,7 +28,7 @@ pub peak-above : (h : ℕ) (p : Way) → WayRanks h p → h + length p ≤ peak 
 peak-above h [] w = omega arith
 peak-above h (step d e r u ∷ p) w = let i = peak-above r p (w .2) in omega arith
 
--- the words hold a tree with the slots l, in which n0 has come to be one lower than its way wants it
+-- the words hold a tree with the slots l, in which n0 has come to be one lower than its way needs it
 pub record Climbing (s : List ℕ) (cap : ℕ) (l : List ℕ) (n0 : Tree) (p : Way) : Type 0 where
   pub words : TreeWords s cap (plug n0 p)
   pub slots-are : slots (inorder (plug n0 p)) ≡ l

@@ -1,6 +1,7 @@
 // The test between two neighbours of the chain: next and prev agree, and keys rise. Before the first and after the last stands no
 // slot, for which the header's FIRST and LAST answer.
 // A reader may rely on: each test is a definition of specs/inner/Joints, for any words.
+// From the Rust: _check_invariants of ord/find.rs, its part on the chain.
 ghost use mathlib.Core.Path.{_≡_};
 ghost use Prim.Native.Nat.{_<_};
 ghost use Rattle.arena.specs.Words.{Room};

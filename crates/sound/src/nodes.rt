@@ -1,5 +1,6 @@
 // The tests at one node of the tree: its back link, its generation, and rule 2 between its rank and its children's.
 // A reader may rely on: each test is a definition of specs/inner/Nodes, for any words.
+// From the Rust: _check_invariants of ord/find.rs, its part on links back and ranks.
 ghost use mathlib.Core.Path.{_≡_};
 ghost use Prim.Native.Nat.{_<_};
 ghost use Rattle.arena.specs.Words.{Room};

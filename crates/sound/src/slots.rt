@@ -1,6 +1,7 @@
 // The tests of each slot and of each place of the free stack, by single words.
 // A reader may rely on: each test is a definition of specs/inner/Slots, for any words; a live slot's test asks only that it hangs below a
 // slot of a greater rank that has it as a child, or is the root: with the walk from the root, that reaches every live slot.
+// From the Rust: _check_invariants of ord/find.rs, its part on parents; the tests of slots without an entry are document 01's.
 ghost use mathlib.Core.Path.{_≡_};
 ghost use Prim.Native.Nat.{_<_, _≤_};
 ghost use Rattle.arena.specs.Words.{Room};

@@ -1,5 +1,5 @@
 -- The climb after taking away keeps rule 2 and the chain.
--- A reader may rely on: removeClimb-kept, for a node that has come to be one lower than its way wants it.
+-- A reader may rely on: removeClimb-kept, for a node that has come to be one lower than its way needs it.
 use mathlib.Core.Path.{_≡_, refl, _∙_, subst}
 use mathlib.Core.List.{[], _∷_, append-assoc}
 use Prim.Native.Nat.{ℕ, suc, _+_, _-_, _≤_}
@@ -86,7 +86,7 @@ beside (step d e r s ∷ p) = rank s
 lower-way : (r : ℕ) (p : Way) → 1 ≤ r → WayRanks r p → WayRanks (suc (r - 1)) p
 lower-way r p h w = let q : r ≡ suc (r - 1) = omega arith in subst (λ (i : ℕ). WayRanks i p) q w
 
--- n0 has come to be one lower than the way wants it
+-- n0 has come to be one lower than the way needs it
 pub removeClimb-kept : (n0 : Tree) (p : Way) → Ranks n0 → WayRanks (suc (rank n0)) p → 1 ≤ rank n0 + beside p
     → Kept (removeClimb n0 p) (plug n0 p)
 unfolding removeClimb plug

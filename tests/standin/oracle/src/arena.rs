@@ -1,4 +1,5 @@
-//! Ours. The slots of document 01, under the names that the given files call.
+//! Ours. The slots of document 01, under the names that the given files call. Names and signatures
+//! come from the Rust's arena/base_arena.rs and arena/impl_arena_trait.rs, changed; NOTICE.
 //!
 //! Not as in the Rust, and decided by document 01: each slot has a generation of its own, from 1 up
 //! to a top; at the top the slot is retired; the slot freed last is taken first, and a fresh store

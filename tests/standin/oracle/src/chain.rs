@@ -2,7 +2,8 @@
 //! files of the published crate that were not given: the type, the kinds of insertion, the trait
 //! with its provided methods, the advancers, and a check of prev and next.
 //!
-//! Linking in, unlinking and reading a link are the given file's bodies.
+//! Linking in, unlinking and reading a link are the given file's bodies. Names and signatures come
+//! from the Rust, changed; NOTICE.
 
 use crate::LinkNoGen;
 use crate::arena::{Advancer, Arena, ArenaBacking, ArenaInsertEntryTrait, ArenaTrait};

@@ -1,4 +1,5 @@
-//! Ours. Pointers, as far as the given files need them, and the handle of document 01.
+//! Ours. Pointers, as far as the given files need them, and the handle of document 01. Names and
+//! signatures come from the Rust's fundamental/ptr.rs and fundamental.rs, changed; NOTICE.
 
 use core::fmt::{self, Debug};
 use core::hash::Hash;

@@ -1,6 +1,7 @@
 //! Ours. What the given files name beside what the queue needs: growing, copying, compressing and
 //! draining, backings, one generation for all slots. Document 01 leaves these out. They stand here
-//! so that the given files compile unchanged; each panics, and nothing calls one.
+//! so that the given files compile unchanged; each panics, and nothing calls one. Names and
+//! signatures come from the Rust, changed; NOTICE.
 
 use core::num::NonZeroUsize;
 use core::slice::GetDisjointMutError;

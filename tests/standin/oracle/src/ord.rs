@@ -1,4 +1,5 @@
 //! Ours. The item and the one instance in use, around the queue of the given simple_ord_arena.rs.
+//! Names and signatures come from the Rust, changed; NOTICE.
 
 use crate::arena::{Arena, ArenaBacking, ArenaTrait};
 use crate::chain::{ChainArena, PtrAdvancer};

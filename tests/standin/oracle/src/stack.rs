@@ -1,4 +1,5 @@
-//! Ours. Stacks counted from 1, as far as the given files name them.
+//! Ours. Stacks counted from 1, as far as the given files name them. Names and signatures come from
+//! the Rust, changed; NOTICE.
 
 use core::num::NonZeroUsize;
 

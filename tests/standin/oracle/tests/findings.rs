@@ -1,4 +1,4 @@
-//! What the given bodies do by themselves, without our wrapper, where document 01 wants something
+//! What the given bodies do by themselves, without our wrapper, where document 01 asks for something
 //! else. EXPECTED-notes.md tells each finding with its smallest script.
 
 mod common;
@@ -116,7 +116,7 @@ fn an_entry_dropped_changes_nothing() {
     assert_eq!(tree.len(), 1);
 }
 
-/// The scripts of EXPECTED-notes.md answer as document 01 wants.
+/// The scripts of EXPECTED-notes.md answer as document 01 asks.
 #[test]
 fn the_scripts_of_the_notes() {
     use common::expect;
