@@ -1,7 +1,7 @@
-// Links the static library that `rt staticlib hosted` makes; HOSTED_LIB names its folder.
+// Links the static library that `rt staticlib host_numbers` makes; HOST_LIB names its folder.
 fn main() {
-    let dir = std::env::var("HOSTED_LIB").expect("HOSTED_LIB: the folder of libhosted.a");
+    let dir = std::env::var("HOST_LIB").expect("HOST_LIB: the folder of libhost_numbers.a");
     println!("cargo:rustc-link-search=native={dir}");
-    println!("cargo:rustc-link-lib=static=hosted");
-    println!("cargo:rerun-if-env-changed=HOSTED_LIB");
+    println!("cargo:rustc-link-lib=static=host_numbers");
+    println!("cargo:rerun-if-env-changed=HOST_LIB");
 }

@@ -15,9 +15,8 @@ use Rattle.wavl.specs.Way.{step, Way, before, after}
 use Rattle.queue_of_store.specs.Ends.{firstSlot, lastSlot, number}
 use Rattle.queue_of_store.specs.Chain.{Chain, ChainWords}
 use Rattle.queue_of_store.proofs.Chains.{end-last, chain-at}
-use Rattle.queue_of_store.proofs.Segments.{last-append}
+use Rattle.queue_of_store.proofs.Segments.{last-append, last-live, first-live}
 use Rattle.queue_of_store.proofs.Linked.{Linked, after-links, before-links}
-use Rattle.insert_means.proofs.Hanging.{last-live, first-live}
 
 -- the neighbour of the place on the side d: what the parent's link on that side leads to
 abbrev pub neighbourSlot : Side → Way → ℕ

@@ -3,7 +3,7 @@
 use Prim.Native.Nat.{ℕ, _≤_, _<_}
 use mathlib.Core.Path.{_≡_, refl, _∙_}
 use mathlib.Core.Logic.{_⊎_, inl, inr}
-use mathlib.Core.List.{List, [], _∷_}
+use mathlib.Core.List.{List}
 use native.Mathlib.Decide.{ℕ-discrete}
 use native.Mathlib.Omega.{arith}
 use lib.Dec.{lit<}
@@ -15,10 +15,7 @@ use Rattle.arena.proofs.Only.{only-trans, only-put, only-weaken}
 use Rattle.tree.specs.inner.Links.{withChild, withNode}
 use Rattle.tree.proofs.Keeps.{only-node, only-child}
 use Rattle.wavl.specs.Lists.{In}
-use Rattle.wavl.specs.Entry.{Entry, slots}
-use Rattle.queue_of_store.specs.Ends.{firstSlot, lastSlot}
 use Rattle.queue_of_store.proofs.Linked.{Linked, LinkedAt}
-use Rattle.queue_of_store.proofs.Segments.{last-in-slots}
 
 -- the slot's own words, all but its generation
 abbrev pub OwnOf : ℕ → ℕ → ℕ → Type 0
@@ -50,16 +47,6 @@ module _ (s : List ℕ) (cap i k v back : ℕ) (hi : i < cap) where
       let b = put a cap i VALUE v in
       only-node {W = λ j g. g ≤ BACK} {H = NoHead} b 0 i back noSlot noSlot 1 (omega arith) hi (λ g lo up. up) .slots i VALUE hi (lit< tt) (λ z. omega arith)
       ∙ field-same a cap i VALUE v hi (lit< tt) (rw (length-put s cap i KEY k) room)
-
--- a link to a slot leads to one of the entries
-pub last-live : (cap : ℕ) (l : List Entry) (j : ℕ) → cap ≤ noSlot → j < cap → j ≡ lastSlot l → In j (slots l)
-last-live cap [] j few low e = absurd (omega arith)
-last-live cap (x ∷ l) j few low e = rw e (last-in-slots x l)
-
-pub first-live : (cap : ℕ) (l : List Entry) (j : ℕ) → cap ≤ noSlot → j < cap → j ≡ firstSlot l → In j (slots l)
-unfolding slots
-first-live cap [] j few low e = absurd (omega arith)
-first-live cap (x ∷ l) j few low e = inl e
 
 -- PREV and NEXT of the slot i and of the slots l
 abbrev pub ChainOf : ℕ → List ℕ → ℕ → ℕ → Type 0

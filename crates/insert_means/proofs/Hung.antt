@@ -42,8 +42,9 @@ use Rattle.queue_of_store.proofs.Reshaped.{header-stays}
 use Rattle.queue_of_store.proofs.NodeWrites.{node-new}
 use Rattle.queue_of_store.proofs.WayWrites.{grown}
 use Rattle.queue_of_store.proofs.Stack.{PlaceOf, pop-rest}
+use Rattle.queue_of_store.proofs.Segments.{last-live, first-live}
 use Rattle.queue_of_store.proofs.Linked.{Linked, chain-in}
-use Rattle.insert_means.proofs.Hanging.{OwnOf, leafed, leaf-only, leaf-key, leaf-value, ChainOf, EndHead, last-live, first-live, link-only, HangsAt, own, other, HangHead, hang-own, hang-chain, hang-child}
+use Rattle.insert_means.proofs.Hanging.{OwnOf, leafed, leaf-only, leaf-key, leaf-value, ChainOf, EndHead, link-only, HangsAt, own, other, HangHead, hang-own, hang-chain, hang-child}
 
 -- the queue with the leaf x at the place, and the handles `rest` left
 abbrev pub hungQueue : Queue → Entry → Way → List Handle → Queue

@@ -1,9 +1,10 @@
 -- A part of the chain between two slots: split, kept, and joined to another slot at either end.
 -- A reader may rely on: only PREV and NEXT of the part's own slots matter.
-use Prim.Native.Nat.{ℕ}
+use Prim.Native.Nat.{ℕ, _≤_, _<_}
 use mathlib.Core.Path.{_≡_, refl, sym, _∙_}
 use mathlib.Core.Logic.{inl, inr}
 use mathlib.Core.List.{List, [], _∷_, _++_}
+use native.Mathlib.Omega.{arith}
 use Rattle.handle.specs.Numbers.{noSlot}
 use Rattle.arena.specs.Words.{field, PREV, NEXT}
 use Rattle.wavl.specs.Lists.{In, Once}
@@ -40,6 +41,16 @@ pub last-in-slots : (e : Entry) (l : List Entry) → In (lastSlot (e ∷ l)) (sl
 unfolding slots
 last-in-slots e [] = inl refl
 last-in-slots e (f ∷ l) = inr (last-in-slots f l)
+
+-- a link to a slot leads to one of the entries
+pub last-live : (cap : ℕ) (l : List Entry) (j : ℕ) → cap ≤ noSlot → j < cap → j ≡ lastSlot l → In j (slots l)
+last-live cap [] j few low e = absurd (omega arith)
+last-live cap (x ∷ l) j few low e = rw e (last-in-slots x l)
+
+pub first-live : (cap : ℕ) (l : List Entry) (j : ℕ) → cap ≤ noSlot → j < cap → j ≡ firstSlot l → In j (slots l)
+unfolding slots
+first-live cap [] j few low e = absurd (omega arith)
+first-live cap (x ∷ l) j few low e = inl e
 
 module _ (s : List ℕ) (cap : ℕ) where
   pub row-of : (l : List Entry) (p : ℕ) → Chain s cap p l → Row s cap p l noSlot

@@ -2,8 +2,8 @@
 -- A reader may rely on: only links of live slots, and ROOT, FIRST and LAST, are written.
 use Prim.Native.Nat.{ℕ, _≤_, _<_}
 use mathlib.Core.Path.{_≡_, ap, _∙_}
-use mathlib.Core.Logic.{inl, inr}
-use mathlib.Core.List.{List, [], _∷_, _++_}
+use mathlib.Core.Logic.{inr}
+use mathlib.Core.List.{List, _∷_, _++_}
 use native.Mathlib.Omega.{arith}
 use native.Mathlib.Decide.{ℕ-discrete}
 use Rattle.handle.specs.Numbers.{noSlot}
@@ -34,7 +34,7 @@ use Rattle.queue_of_store.proofs.Reshaped.{header-stays}
 use Rattle.queue_of_store.proofs.Trees.{LinkOf}
 use Rattle.remove_means.proofs.Kept.{LinksOnly}
 use Rattle.queue_of_store.proofs.Chains.{end-last, chain-at}
-use Rattle.queue_of_store.proofs.Segments.{last-in-slots}
+use Rattle.queue_of_store.proofs.Segments.{last-live, first-live}
 use Rattle.queue_of_store.proofs.Linked.{JoinedAt, EndsAt, joined-unlinks, chain-out}
 
 -- a link of a live slot, of the tree or of the chain; the header's words that name ends
@@ -94,26 +94,16 @@ module _ (s s1 : List ℕ) (q : Queue) (d : Separate q) (w : Words s q) (l : Lis
       let k = chain-at s1 cap l x m noSlot (chain1 .chain) in
       ap (λ (y : List ℕ × Neighbours). y .0) (unlink-is s1 cap (x .slot) a b (k .prev-is ∙ end-last l) (k .next-is))
 
-  -- the closed ends are slots of the chain, or none
-  last-live : (k : List Entry) (j : ℕ) → j < cap → j ≡ lastSlot k → In j (slots k)
-  last-live [] j h e = let f = few in absurd (omega arith)
-  last-live (e ∷ k) j h z = rw z (last-in-slots e k)
-
-  first-live : (k : List Entry) (j : ℕ) → j < cap → j ≡ firstSlot k → In j (slots k)
-  unfolding slots
-  first-live [] j h e = let f = few in absurd (omega arith)
-  first-live (e ∷ k) j h z = inl z
-
   o2 : Only s1 u cap (JoinedAt a b) (EndsAt cap a b)
   o2 = joined-unlinks s1 cap a b room1 .only
 
   joined-live : (j g : ℕ) → j < cap → JoinedAt a b j g → Dec (g ≡ PREV) → LinkAt L j g
   joined-live j g h z (yes e) =
-      (rw (old, slots-put l x m) (in-right j (slots l) (x .slot ∷ slots m) (inr (first-live m j h (z .2 e)))), omega arith, omega arith)
+      (rw (old, slots-put l x m) (in-right j (slots l) (x .slot ∷ slots m) (inr (first-live cap m j few h (z .2 e)))), omega arith, omega arith)
   joined-live j g h z (no n) =
       let lo = z .0 in
       let up = z .1 in
-      (rw (old, slots-put l x m) (in-left j (slots l) (x .slot ∷ slots m) (last-live l j h (z .3 (omega arith)))), omega arith, omega arith)
+      (rw (old, slots-put l x m) (in-left j (slots l) (x .slot ∷ slots m) (last-live cap l j few h (z .3 (omega arith)))), omega arith, omega arith)
 
   o : Only s u cap (LinkAt L) NamesEnd
   o =

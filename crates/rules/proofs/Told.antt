@@ -175,7 +175,7 @@ end-left (z ∷ l) = let i = last-split z l in rw (i .3) (i .0, i .1, i .2, refl
 end-right : (l : List Entry) → EndIs right l (standsAt (first l))
 unfolding standsAt first
 end-right [] = refl
-end-right (y ∷ l) = (y, l, refl, refl)
+end-right (y ∷ l) = (l, y, refl, refl)
 
 -- First and last, on any queue
 pub first-answers : (q : Queue) → FirstAnswers q (Look.standFirst q)

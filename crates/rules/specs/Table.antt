@@ -10,7 +10,7 @@ use Prim.Native.Nat.{ℕ, _<_}
 use lib.ListN.{length}
 use Rattle.wavl.specs.Lists.{first, last}
 use Rattle.wavl.specs.Entry.{Entry}
-use Rattle.wavl.specs.Tree.{Side, left, right}
+use Rattle.wavl.specs.Tree.{Side, left, right, pick}
 use Rattle.wavl.specs.Search.{path}
 use Rattle.rules.specs.Queue.{Handle, handleOf, Queue, entries, HasEntry, Has, Names, Live}
 use Rattle.rules.specs.Answers.{Where, less, equal, greater, Laid, laid, notLaid, Inserted, new, replacing, notInserted, Ahead, wouldAdd, wouldReplace, wouldRefuse, Note, noNote, generationOverflow, Removed, removed, notRemoved, Read, reads, notRead, Stepped, stands, atEnd, notStepped, SearchAnswer, equalAt, beside, noEntry, notFound, notWithinCapacity, failedOrdRequirement, invalidPtr, badLayout}
@@ -103,8 +103,7 @@ ReadAnswers h q (notRead n) = (n ≡ invalidPtr) × (¬ Live h q)
 
 -- the entry at the end of a chain, the last of it for left and the first for right; End where it has none
 abbrev pub EndIs : Side → List Entry → Stepped → Type 0
-EndIs left l (stands g) = (m : List Entry) × (y : Entry) × (l ≡ m ++ (y ∷ [])) × (g ≡ handleOf y)
-EndIs right l (stands g) = (y : Entry) × (m : List Entry) × (l ≡ y ∷ m) × (g ≡ handleOf y)
+EndIs d l (stands g) = (m : List Entry) × (y : Entry) × (l ≡ pick d (m ++ (y ∷ [])) (y ∷ m)) × (g ≡ handleOf y)
 EndIs d l atEnd = l ≡ []
 EndIs d l (notStepped n) = ⊥
 
@@ -123,8 +122,7 @@ StandAnswers h q (notStepped n) = (n ≡ invalidPtr) × (¬ Live h q)
 
 -- Stepping: the entry next to the handle's in the chain; End where none is there
 abbrev pub Rest : Side → {h : Handle} {q : Queue} → Target h q → List Entry
-Rest left t = t .smaller
-Rest right t = t .greater
+Rest d t = pick d (t .smaller) (t .greater)
 
 abbrev pub StepAnswers : Side → Handle → Queue → Stepped → Type 0
 StepAnswers d h q (stands g) = (t : Target h q) × EndIs d (Rest d t) (stands g)

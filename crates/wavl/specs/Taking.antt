@@ -6,7 +6,7 @@ use mathlib.Core.Path.{_≡_}
 use Prim.Native.Nat.{ℕ, _+_, _-_, _≤_}
 use native.Mathlib.Decide.{decLe, ℕ-discrete}
 use Rattle.wavl.specs.Entry.{Entry, blank}
-use Rattle.wavl.specs.Tree.{Side, left, right, other, Tree, tip, fork, node, rank, entry, child, leaf}
+use Rattle.wavl.specs.Tree.{Side, left, right, other, Tree, tip, fork, pick, ifFork, node, rank, entry, child, leaf}
 use Rattle.wavl.specs.Way.{step, Way, plug}
 
 -- The climb. n0 is the child of n1, on the side d, whose place was emptied or lowered; s0 is n1's other child, and a and b
@@ -73,50 +73,43 @@ settle (step d e r (fork a f q b) ∷ p) = removeClimb tip (step d e r (fork a f
 
 -- Replacements. "A node with a child is replaced by its chain prev, or by its next ..; the replacement takes its rank and
 -- place. If the replacement had a child, that happens once more". The prev of a node with a left child is the last node of
--- that child's tree, and the next of a node with a right child the first one.
+-- that child's tree, and the next of a node with a right child the first one. Of two children near is the one on the side d
+-- and far the other. Of a function f, pick d (f a) (f b) is f near: in this form the checker sees that the recursion ends.
 
 -- the entry at the end of a tree on the given side: the last one on the right, the first one on the left
 unfoldable pub endmost : Side → Tree → Entry
 endmost d tip = blank
-endmost left (fork tip e r b) = e
-endmost left (fork (fork a f q c) e r b) = endmost left (fork a f q c)
-endmost right (fork a e r tip) = e
-endmost right (fork a e r (fork b f q c)) = endmost right (fork b f q c)
+endmost d (fork a e r b) = ifFork (pick d a b) (pick d (endmost d a) (endmost d b)) e
 
 -- The node at the end of t on the side d is taken out of its place: the way up from the place that is emptied at last. That
 -- node has no child on the side d; if it has the other one, it is replaced by the neighbour that stands there.
 unfoldable pub vacateEnd : Side → Tree → Way → Way
 vacateEnd d tip p = p
-vacateEnd left (fork tip e r tip) p = p
-vacateEnd left (fork tip e r (fork b f q c)) p = vacateEnd left (fork b f q c) (step right (endmost left (fork b f q c)) r tip ∷ p)
-vacateEnd left (fork (fork a f q c) e r b) p = vacateEnd left (fork a f q c) (step left e r b ∷ p)
-vacateEnd right (fork tip e r tip) p = p
-vacateEnd right (fork (fork a f q c) e r tip) p = vacateEnd right (fork a f q c) (step left (endmost right (fork a f q c)) r tip ∷ p)
-vacateEnd right (fork a e r (fork b f q c)) p = vacateEnd right (fork b f q c) (step right e r a ∷ p)
+vacateEnd d (fork a e r b) p =
+    let near = pick d a b in
+    let far = pick d b a in
+    ifFork near (pick d (vacateEnd d a) (vacateEnd d b) (step d e r far ∷ p))
+    (ifFork far (pick d (vacateEnd d b) (vacateEnd d a) (step (other d) (endmost d far) r tip ∷ p)) p)
 
 -- The root of t is taken out of its place. With a left child it has a prev, the last node there. "by its next if it has
 -- rank 2 and no left child, or no prev": by rule 2 a node with a right child alone has rank 2 (proofs/Replaced).
 unfoldable pub vacate : Tree → Way → Way
 vacate tip p = p
-vacate (fork tip e r tip) p = p
-vacate (fork tip e r (fork b f q c)) p = vacateEnd left (fork b f q c) (step right (endmost left (fork b f q c)) r tip ∷ p)
-vacate (fork (fork a f q c) e r b) p = vacateEnd right (fork a f q c) (step left (endmost right (fork a f q c)) r b ∷ p)
+vacate (fork a e r b) p =
+    ifFork a (vacateEnd right a (step left (endmost right a) r b ∷ p))
+    (ifFork b (vacateEnd left b (step right (endmost left b) r tip ∷ p)) p)
 
 -- the replacements in their order: the entries that move
 unfoldable pub movedEnd : Side → Tree → List Entry
 movedEnd d tip = []
-movedEnd left (fork tip e r tip) = []
-movedEnd left (fork tip e r (fork b f q c)) = endmost left (fork b f q c) ∷ movedEnd left (fork b f q c)
-movedEnd left (fork (fork a f q c) e r b) = movedEnd left (fork a f q c)
-movedEnd right (fork tip e r tip) = []
-movedEnd right (fork (fork a f q c) e r tip) = endmost right (fork a f q c) ∷ movedEnd right (fork a f q c)
-movedEnd right (fork a e r (fork b f q c)) = movedEnd right (fork b f q c)
+movedEnd d (fork a e r b) =
+    let near = pick d a b in
+    let far = pick d b a in
+    ifFork near (pick d (movedEnd d a) (movedEnd d b)) (ifFork far (endmost d far ∷ pick d (movedEnd d b) (movedEnd d a)) [])
 
 unfoldable pub moved : Tree → List Entry
 moved tip = []
-moved (fork tip e r tip) = []
-moved (fork tip e r (fork b f q c)) = endmost left (fork b f q c) ∷ movedEnd left (fork b f q c)
-moved (fork (fork a f q c) e r b) = endmost right (fork a f q c) ∷ movedEnd right (fork a f q c)
+moved (fork a e r b) = ifFork a (endmost right a ∷ movedEnd right a) (ifFork b (endmost left b ∷ movedEnd left b) [])
 
 unfoldable pub removeAt : Tree → Way → Tree
 removeAt tip p = plug tip p

@@ -16,10 +16,15 @@ pub data Tree : Type 0 where
   tip : Tree
   fork : Tree → Entry → ℕ → Tree → Tree
 
--- of two trees, a on the side d and b on the other: the one that stands at the left
-abbrev pub pick : Side → Tree → Tree → Tree
+-- of a on the side d and b on the other: the one at the left; of a at the left and b at the right: the one on the side d
+abbrev pub pick : {A : Type 0} → Side → A → A → A
 pick left a b = a
 pick right a b = b
+
+-- the first answer where t is a node, the second where it is missing
+abbrev pub ifFork : {A : Type 0} → Tree → A → A → A
+ifFork tip x y = y
+ifFork (fork a e r b) x y = x
 
 -- the child on the side d, the entry, the rank, the other child
 abbrev pub node : Side → Tree → Entry → ℕ → Tree → Tree
