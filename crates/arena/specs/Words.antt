@@ -1,6 +1,6 @@
 -- Where the words of a queue stand in the store that the caller lends (docs/STORE.md has the picture).
 -- Document 01: "The team chooses the layout and writes it in docs/STORE.md; it needs at most 16 numbers a slot and 16 more."
--- Above crate `arena` nobody opens these definitions: the laws of proofs/Laws.antt are all that is used of them.
+-- Above crate `arena` nobody opens these definitions: the laws of proofs/WordLaws.antt are all that is used of them.
 use Prim.Native.Nat.{ℕ, _+_, _-_, _*_, _≤_}
 use mathlib.Core.List.{List}
 use lib.ListN.{getD, set, length}

@@ -1,5 +1,5 @@
 // The words of a store: sixteen of header, then what a search reads of each slot, then the rest of each slot.
-// Above this module only `field`, `put`, `head` and `put_head` touch a store, and their laws (proofs/Laws.antt) say all that is known of them.
+// Above this module only `field`, `put`, `head` and `put_head` touch a store, and their laws (proofs/WordLaws.antt) say all that is known of them.
 ghost use mathlib.Core.Path.{_≡_};
 ghost use Prim.Native.Nat.{_<_};
 ghost use Rattle.arena.specs.Words.{Long, Room, field as fieldOf, put as putOf, head as headOf, putHead, fields, headWords};

@@ -8,8 +8,11 @@ use mathlib.Core.List.{List}
 use native.Mathlib.Omega.{arith}
 use lib.IntN.{ℤ}
 use lib.ListN.{length}
+use Rattle.handle.specs.Numbers.{InRange}
+use Rattle.handle.specs.declared.Needed as N
 use Rattle.handle.specs.declared.Handle as H
 use Rattle.handle.specs.declared.Side as D
+use Rattle.arena.specs.Words.{need}
 use Rattle.arena.specs.Keys.{stored}
 use Rattle.arena.specs.Laying.{GoodLayout}
 use Rattle.handle.specs.declared.LaidOut as L
@@ -36,7 +39,7 @@ use Rattle.insert_means.specs.Meaning.{insertedMeans, aheadMeans, sideMeans}
 use Rattle.remove_means.specs.Meaning.{removedMeans, readMeans}
 use Rattle.queue.specs.Promises.{enoughIn, Writes, Looks}
 use Rattle.queue.specs.Readings.{laidMeans, searchMeans, movedMeans}
-use Rattle.queue.specs.Promised.{LayOutPromise, InsertPromise, EmptyPromise, ManualPromise, RemovePromise, ReadPromise, SearchPromise, FirstPromise, LastPromise, AtPromise, BackPromise, ForwardPromise}
+use Rattle.queue.specs.Promised.{NeedPromise, LayOutPromise, InsertPromise, EmptyPromise, ManualPromise, RemovePromise, ReadPromise, SearchPromise, FirstPromise, LastPromise, AtPromise, BackPromise, ForwardPromise}
 use Rattle.queue.specs.declared.looking.Searched.{Searched}
 use Rattle.queue.specs.declared.cursor.Moved.{Moved}
 use Rattle.queue.proofs.Promising.{good-one}
@@ -173,3 +176,11 @@ module _ (s t : List ℕ) (capacity top : ℕ) (r : L.LaidOut) (w : LayOutPromis
       go : GoodLayout (length s) capacity top ⊎ (¬ GoodLayout (length s) capacity top) → n ≡ badLayout
       go (inl g) = let f : laid ≡ notLaid n = sym (ap laidMeans (w .lays g .0)) ∙ e in absurd (let z : _≡_ {A = ℕ} 0 1 = cc in omega arith)
       go (inr m) = let f : notLaid badLayout ≡ notLaid n = sym (ap laidMeans (w .refuses m .1)) ∙ e in cc
+
+-- a capacity's numbers are the least length at which laying out takes it
+pub needed-lays : (len capacity top n : ℕ) → InRange capacity top → NeedPromise capacity (N.the-variants.Numbers n)
+    → GoodLayout len capacity top ↔ (n ≤ len)
+needed-lays len capacity top n g w =
+    let e : N.the-variants.Numbers n ≡ N.the-variants.Numbers (need capacity) = w .tells (g .capacity-from) (g .capacity-to) in
+    let z : n ≡ need capacity = cc in
+    (λ x. rw z (x .room), λ m. record { range = g; room = rw (sym z) m })

@@ -1,5 +1,6 @@
 -- The public promises, call by call, from the equality with the model.
-use Prim.Native.Nat.{ℕ}
+use Prim.Native.Nat.{ℕ, _≤_, _<_}
+use native.Mathlib.Omega.{arith}
 use mathlib.Core.Path.{_≡_, refl, _∙_, ap, subst⁻¹}
 use mathlib.Core.Logic.{_↔_}
 use mathlib.Core.Bool.{Bool, true, false}
@@ -7,6 +8,8 @@ use mathlib.Core.List.{List}
 use lib.IntN.{ℤ}
 use lib.ListN.{length}
 use borrow.Author.Tests.{le-leb, leb-true}
+use Rattle.handle.specs.Numbers.{limit}
+use Rattle.handle.specs.declared.Needed.the-variants as N
 use Rattle.handle.specs.declared.Handle.{Handle}
 use Rattle.handle.specs.declared.Side.{Side}
 use Rattle.handle.specs.declared.Refusal.the-variants.{BadLayout}
@@ -38,7 +41,7 @@ use Rattle.insert_means.proofs.Theorems.{normal-means, normal-ahead, empty-mean
 use Rattle.remove_means.proofs.Means.{remove-means, read-means}
 use Rattle.queue.specs.Promises.{enoughIn}
 use Rattle.queue.specs.Readings.{laidMeans}
-use Rattle.queue.specs.Promised.{LayOutPromise, InsertPromise, EmptyPromise, ManualPromise, AheadPromise, AheadEmptyPromise, AheadManualPromise, RemovePromise, ReadPromise, SearchPromise, FirstPromise, LastPromise, AtPromise, BackPromise, ForwardPromise}
+use Rattle.queue.specs.Promised.{NeedPromise, LayOutPromise, InsertPromise, EmptyPromise, ManualPromise, AheadPromise, AheadEmptyPromise, AheadManualPromise, RemovePromise, ReadPromise, SearchPromise, FirstPromise, LastPromise, AtPromise, BackPromise, ForwardPromise}
 use Rattle.queue.specs.inner.Looking.{searched, searchCall, readCall}
 use Rattle.queue.specs.inner.Moving.{movedTo, startCall, standIn, standCall, stepIn, stepCall}
 use Rattle.queue.specs.inner.Placing.{insertCall, emptyCall, manualCall, aheadCall, aheadEmptyCall, aheadManualCall}
@@ -47,6 +50,17 @@ use Rattle.queue.specs.declared.looking.Searched.{Searched}
 use Rattle.queue.specs.declared.cursor.Moved.{Moved}
 use Rattle.queue.proofs.Keeping.{Keeps, writes, looks}
 use Rattle.queue.proofs.Looked.{on-held, search-means, first-is, last-is, stand-is, back-is, forward-is}
+
+-- how many numbers a capacity takes: out of its range on either side, and in it
+module _ (capacity : ℕ) where
+  pub needs-none : capacity < 1 → NeedPromise capacity (N.Refused BadLayout)
+  needs-none h = record { tells = λ low high. absurd (omega (arith, h, low)); refuses = λ out. refl }
+
+  pub needs-beyond : limit < capacity → NeedPromise capacity (N.Refused BadLayout)
+  needs-beyond h = record { tells = λ low high. absurd (omega (arith, h, high)); refuses = λ out. refl }
+
+  pub needs-told : 1 ≤ capacity → capacity ≤ limit → NeedPromise capacity (N.Numbers (need capacity))
+  needs-told low high = record { tells = λ l h. refl; refuses = λ out. absurd (out (low, high)) }
 
 -- calls that look
 module _ (s : List ℕ) where

@@ -1,5 +1,5 @@
 // The two restructures after a new entry, each one piece of code over the side: n2 hands its place to n1 or to n0.
-// A caller relies on the equality with specs/inner/Turns.antt; slots that it has tested are required to lie below the capacity.
+// A caller relies on the equality with specs/inner/Restructures.antt; slots that it has tested are required to lie below the capacity.
 // From the Rust: the nonalternating and the alternating case of rebalance_inserted (ord/insert.rs).
 ghost use mathlib.Core.Path.{_≡_};
 ghost use Prim.Native.Nat.{_<_, _≤_};
