@@ -11,7 +11,7 @@ fn say(n: u64, text: &[u8]) {
     io::write_all(1, text);
 }
 
-fn tell(answer: Inserted) {
+fn planned(answer: Inserted) {
     match answer {
         Inserted::New(h) => say(h.slot.0, b" is the slot of a new strike\n"),
         Inserted::Replacing(_, old) => say(old, b" strokes are replaced\n"),
@@ -19,41 +19,40 @@ fn tell(answer: Inserted) {
     }
 }
 
-fn step_through(s: &[u64]) {
-    let mut m = Cursor::first(s);
-    let mut left: u64 = 8;
-    while 0 < left {
-        let Moved::At(c) = m else { break };
-        say(c.handle.slot.0, b" is the slot of the next strike\n");
-        m = c.forward(s);
-        left -= 1;
+fn reached(m: Moved) {
+    match m {
+        Moved::At(c) => say(c.handle.slot.0, b" is the slot of the strike reached\n"),
+        Moved::End => say(0, b" strikes are left\n"),
+        Moved::Refused(r) => say(r.number(), b" is why no step was made\n"),
     }
-    if let Moved::Refused(r) = m {
-        say(r.number(), b" is why no step was made\n");
+}
+
+fn cancelled(answer: Removed) {
+    match answer {
+        Removed::Entry(e) => say(e.value, b" strokes are cancelled\n"),
+        Removed::GenerationOverflow(e) => say(e.value, b" strokes, and the slot is retired\n"),
+        Removed::Refused(r) => say(r.number(), b" is why nothing was cancelled\n"),
     }
 }
 
 fn main() {
     let mut s = [0u64; 96]; // as many as numbers_needed(8) tells
-    if let handle::LaidOut::Refused(r) = queue::placing::lay_out(&mut s, 8, 9) {
-        say(r.number(), b" is why no queue was laid out\n");
+    match queue::placing::lay_out(&mut s, 8, 9) {
+        handle::LaidOut::Done => say(8, b" slots are laid out\n"),
+        handle::LaidOut::Refused(r) => say(r.number(), b" is why no queue was laid out\n"),
     }
-    tell(queue::placing::insert(&mut s, Key(64_800), 6));
     let half = queue::placing::insert(&mut s, Key(66_600), 2);
-    tell(half);
-    tell(queue::placing::insert(&mut s, Key(64_800), 7)); // the same key: the value is replaced
-    if let Inserted::New(h) = half {
-        match queue::taking::remove(&mut s, h) {
-            Removed::Entry(e) => say(e.value, b" strokes are cancelled\n"),
-            Removed::GenerationOverflow(e) => say(e.value, b" strokes, and the slot is retired\n"),
-            Removed::Refused(r) => say(r.number(), b" is why nothing was cancelled\n"),
-        }
-    }
+    planned(half);
+    planned(queue::placing::insert(&mut s, Key(64_800), 6));
+    planned(queue::placing::insert(&mut s, Key(64_800), 7)); // the same key: the value is replaced
+    let Inserted::New(h) = half else { return };
+    reached(Cursor::first(&s));
+    reached(Cursor { handle: h }.forward(&s));
+    cancelled(queue::taking::remove(&mut s, h));
     match queue::looking::search(&s, Key(66_600)) {
         Searched::Equal(h, _) => say(h.slot.0, b" is the slot of the strike found\n"),
         Searched::Beside(h, _, _) => say(h.slot.0, b" is the slot beside; it is absent\n"),
         Searched::Empty(n) => say(n, b" strikes are planned\n"),
         Searched::Refused(r) => say(r.number(), b" is why nothing was searched\n"),
     }
-    step_through(&s);
 }
