@@ -21,6 +21,7 @@ use handle::Key;
 use handle::Refusal;
 use handle::Side;
 use raise::ranks;
+use tree::Node;
 
 // "Any insertion answers New or Replacing with the handle, and the old value if replacing."
 pub enum Inserted {
@@ -36,16 +37,13 @@ fn stand_alone(s: &mut [u64], cap: u64, i: u64, key: Key, value: u64)
     ensures { λ _. ⌜ now (s .exit) ≡ standAlone (now (s .entry)) cap i (key .0) value ⌝ }
 {
     entries::put_entry(s, cap, i, key, value);
-    tree::put_node(
-        s,
-        cap,
-        0,
-        i,
-        Handle::NO_SLOT,
-        Handle::NO_SLOT,
-        Handle::NO_SLOT,
-        1,
-    );
+    let alone = Node {
+        back: Handle::NO_SLOT,
+        near: Handle::NO_SLOT,
+        far: Handle::NO_SLOT,
+        rank: 1,
+    };
+    tree::put_node(s, cap, 0, i, alone);
     chain::link_alone(s, cap, i);
     words::put_head(s, ROOT, i);
 }
@@ -79,7 +77,13 @@ fn hang_below(s: &mut [u64], cap: u64, i: u64, p: u64, d: u64, key: Key, value: 
     ensures { λ r. ⌜ (now (s .exit), r) ≡ hungBelow (now (s .entry)) cap i p d (key .0) value ⌝ }
 {
     entries::put_entry(s, cap, i, key, value);
-    tree::put_node(s, cap, 0, i, p, Handle::NO_SLOT, Handle::NO_SLOT, 1);
+    let leaf = Node {
+        back: p,
+        near: Handle::NO_SLOT,
+        far: Handle::NO_SLOT,
+        rank: 1,
+    };
+    tree::put_node(s, cap, 0, i, leaf);
     chain::link_beside(s, cap, i, p, d);
     tree::put_child(s, cap, p, d, i);
     ranks::rebalance(s, cap, i, p)
