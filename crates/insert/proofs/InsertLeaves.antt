@@ -93,7 +93,7 @@ module _ (cap : ℕ) (key : ℤ) (value : ℕ) where
   unfolding standAlone
   alone-within s i hi =
       only-trans (entry-within s cap i key value hi)
-      (only-trans (only-node _ _ _ _ _ _ _ (omega arith) hi (λ g lo up e. omega arith))
+      (only-trans (only-node _ _ _ _ (omega arith) hi (λ g lo up e. omega arith))
       (only-trans (alone-only _ _ _ hi (λ e. omega arith) (λ e. omega arith) (omega arith) (omega arith)) (only-putHead _ ROOT i (omega arith) (omega arith))))
 
   module _ (p d : ℕ) (hp : p < cap) (hd : d ≤ 1) where
@@ -101,7 +101,7 @@ module _ (cap : ℕ) (key : ℤ) (value : ℕ) where
     unfolding hung linkBeside
     hung-within s i hi =
         only-trans (entry-within s cap i key value hi)
-        (only-trans (only-node _ _ _ _ _ _ _ (omega arith) hi (λ g lo up e. omega arith))
+        (only-trans (only-node _ _ _ _ (omega arith) hi (λ g lo up e. omega arith))
         (only-trans (between-only _ _ _ _ _ _ hi hp hd (λ g lo up e. omega arith) (λ e. omega arith) (λ l e. omega arith) (λ l. omega arith))
         (only-child _ _ _ _ hd (λ l e. omega arith) (λ l. omega arith))))
 

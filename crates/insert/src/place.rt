@@ -22,6 +22,7 @@ use handle::Key;
 use handle::Refusal;
 use handle::Side;
 use raise::ranks;
+use tree::Node;
 
 // The slot i becomes the whole queue: an entry of rank 1 with no neighbour.
 fn stand_alone(s: &mut [u64], cap: u64, i: u64, key: Key, value: u64)
@@ -30,16 +31,13 @@ fn stand_alone(s: &mut [u64], cap: u64, i: u64, key: Key, value: u64)
     ensures { λ _. ⌜ now (s .exit) ≡ standAlone (now (s .entry)) cap i (key .0) value ⌝ }
 {
     entries::put_entry(s, cap, i, key, value);
-    tree::put_node(
-        s,
-        cap,
-        0,
-        i,
-        Handle::NO_SLOT,
-        Handle::NO_SLOT,
-        Handle::NO_SLOT,
-        1,
-    );
+    let alone = Node {
+        back: Handle::NO_SLOT,
+        near: Handle::NO_SLOT,
+        far: Handle::NO_SLOT,
+        rank: 1,
+    };
+    tree::put_node(s, cap, 0, i, alone);
     chain::link_alone(s, cap, i);
     words::put_head(s, ROOT, i);
 }
@@ -73,7 +71,13 @@ fn hang_below(s: &mut [u64], cap: u64, i: u64, p: u64, d: u64, key: Key, value: 
     ensures { λ r. ⌜ (now (s .exit), r) ≡ hungBelow (now (s .entry)) cap i p d (key .0) value ⌝ }
 {
     entries::put_entry(s, cap, i, key, value);
-    tree::put_node(s, cap, 0, i, p, Handle::NO_SLOT, Handle::NO_SLOT, 1);
+    let leaf = Node {
+        back: p,
+        near: Handle::NO_SLOT,
+        far: Handle::NO_SLOT,
+        rank: 1,
+    };
+    tree::put_node(s, cap, 0, i, leaf);
     chain::link_beside(s, cap, i, p, d);
     tree::put_child(s, cap, p, d, i);
     ranks::rebalance(s, cap, i, p)

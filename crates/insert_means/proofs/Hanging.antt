@@ -14,6 +14,7 @@ use Rattle.arena.proofs.WordLaws.{length-put, field-same, field-off}
 use Rattle.arena.proofs.Only.{only-trans, only-put, only-weaken}
 use Rattle.tree.specs.inner.Links.{withChild, withNode}
 use Rattle.tree.proofs.Keeps.{only-node, only-child}
+use Rattle.insert.specs.inner.Place.{childless}
 use Rattle.wavl.specs.Lists.{In}
 use Rattle.queue_of_store.proofs.Linked.{Linked, LinkedAt}
 
@@ -23,7 +24,7 @@ OwnOf i j g = (j ≡ i) × (g < STACK) × ¬ (g ≡ GENERATION)
 
 -- its key, value, links and rank, without a child
 abbrev pub leafed : List ℕ → ℕ → ℕ → ℕ → ℕ → ℕ → List ℕ
-leafed s cap i k v back = withNode (put (put s cap i KEY k) cap i VALUE v) cap 0 i back noSlot noSlot 1
+leafed s cap i k v back = withNode (put (put s cap i KEY k) cap i VALUE v) cap 0 i (childless back)
 
 module _ (s : List ℕ) (cap i k v back : ℕ) (hi : i < cap) where
   pub leaf-only : Only s (leafed s cap i k v back) cap (OwnOf i) NoHead
@@ -32,20 +33,20 @@ module _ (s : List ℕ) (cap i k v back : ℕ) (hi : i < cap) where
       let b = put a cap i VALUE v in
       only-trans (only-put s i KEY k hi (lit< tt) (refl, lit< tt, λ e. omega arith))
       (only-trans (only-put a i VALUE v hi (lit< tt) (refl, lit< tt, λ e. omega arith))
-      (only-node b 0 i back noSlot noSlot 1 (omega arith) hi (λ g lo up. (refl, omega arith, λ e. omega arith))))
+      (only-node b 0 i (childless back) (omega arith) hi (λ g lo up. (refl, omega arith, λ e. omega arith))))
 
   pub leaf-key : Long s cap → field (leafed s cap i k v back) cap i KEY ≡ k
   leaf-key room =
       let a = put s cap i KEY k in
       let b = put a cap i VALUE v in
-      only-node {W = λ j g. LEFT ≤ g} {H = NoHead} b 0 i back noSlot noSlot 1 (omega arith) hi (λ g lo up. lo) .slots i KEY hi (lit< tt) (λ z. omega arith)
+      only-node {W = λ j g. LEFT ≤ g} {H = NoHead} b 0 i (childless back) (omega arith) hi (λ g lo up. lo) .slots i KEY hi (lit< tt) (λ z. omega arith)
       ∙ field-off a cap i VALUE v hi (lit< tt) i KEY hi (lit< tt) (λ e. omega arith) ∙ field-same s cap i KEY k hi (lit< tt) room
 
   pub leaf-value : Long s cap → field (leafed s cap i k v back) cap i VALUE ≡ v
   leaf-value room =
       let a = put s cap i KEY k in
       let b = put a cap i VALUE v in
-      only-node {W = λ j g. g ≤ BACK} {H = NoHead} b 0 i back noSlot noSlot 1 (omega arith) hi (λ g lo up. up) .slots i VALUE hi (lit< tt) (λ z. omega arith)
+      only-node {W = λ j g. g ≤ BACK} {H = NoHead} b 0 i (childless back) (omega arith) hi (λ g lo up. up) .slots i VALUE hi (lit< tt) (λ z. omega arith)
       ∙ field-same a cap i VALUE v hi (lit< tt) (rw (length-put s cap i KEY k) room)
 
 -- PREV and NEXT of the slot i and of the slots l

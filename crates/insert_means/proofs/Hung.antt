@@ -25,6 +25,7 @@ use Rattle.wavl.proofs.Order.{plug-around, empty-place-order}
 use Rattle.rules.specs.Queue.{Handle, Queue, entryWith, entries, changed}
 use Rattle.rules.specs.Sound.{freeSlots, usedSlots, Under}
 use Rattle.rules.proofs.Lists.{all-put, slots-put, in-put}
+use Rattle.insert.specs.inner.Place.{childless}
 use Rattle.queue_of_store.specs.Ends.{firstSlot, lastSlot}
 use Rattle.queue_of_store.specs.Links.{Links, TreeWords}
 use Rattle.queue_of_store.specs.inner.Ways.{parent, sideIn}
@@ -259,7 +260,7 @@ module _ {s : List ℕ} {q : Queue} (dq : Separate q) (w : Words s q) (h : Handl
         let b = put a cap i VALUE v in
         let rb : Long b cap = rw (length-put a cap i VALUE v, length-put takenStore cap i KEY k) room-a in (
           node-keep leafStore t cap 0 (parent p) noSlot i 1 noSlot (omega arith) (λ g f. chain-writes .slots i g low (omega arith) (λ y. omega arith))
-              (node-new b cap 0 i (parent p) noSlot noSlot 1 (omega arith) low rb),
+              (node-new b cap 0 i (childless (parent p)) (omega arith) low rb),
           tt,
           tt,
         )

@@ -22,7 +22,7 @@ use Rattle.queue_of_store.specs.inner.Ways.{parent}
 use Rattle.queue_of_store.proofs.Has.{Has, Distinct, apart, has-top, not-top}
 use Rattle.queue_of_store.proofs.Trees.{opened, slot-low}
 use Rattle.queue_of_store.proofs.Ways.{unplugged}
-use Rattle.insert_means.proofs.Restructured.{turnedBy}
+use Rattle.insert_means.proofs.Restructured.{turnOf, turnedBy}
 
 -- "A missing child counts as rank 0."
 pub rank-of : (s : List ℕ) (cap back : ℕ) (x : Tree) → cap ≤ noSlot → Links s cap back x → rankOf s cap (topSlot x) ≡ rank x
@@ -51,7 +51,7 @@ module _ (s : List ℕ) (cap : ℕ) (few : cap ≤ noSlot) (d e : Side) (n0 : Tr
   abbrev turn : List ℕ × Climbed
   turn = fixTurn s cap (topSlot n0) (e1 .slot) (e2 .slot) (number d) (number e)
 
-  reads : (x : List ℕ × Climbed) → x ≡ fixWith s cap (topSlot n0) (e1 .slot) (e2 .slot) (number d) (number e) r1 r2 (parent p) (topSlot s1) (rank s1) → x ≡ turn
+  reads : (x : List ℕ × Climbed) → x ≡ fixWith s cap (number d) (number e) (turnOf (topSlot n0) e1 e2 s1 p) r1 r2 (rank s1) → x ≡ turn
   reads x q =
       let n1 = node d n0 e1 r1 s0 in
       let P = unplugged s cap p (node e n1 e2 r2 s1) T in
@@ -70,12 +70,12 @@ module _ (s : List ℕ) (cap : ℕ) (few : cap ≤ noSlot) (d e : Side) (n0 : Tr
       reads (raisedUp s cap (e2 .slot) (parent p) r1) (rw (le-ltb r1 r2 over, lt-leb budget r1 low, lt-leb budget (rank s1) low₁, eq-eqb (rank s1 + 1) r2 h))
 
   pub turn-turns : r2 ≤ r1 → r1 < budget → rank s1 < budget → ¬ (rank s1 + 1 ≡ r2)
-      → (turnedBy d e s cap (topSlot n0) (e1 .slot) (e2 .slot) (parent p) (topSlot s1), Done) ≡ turn
-  turn-turns over low low₁ h = reads (turnedBy d e s cap (topSlot n0) (e1 .slot) (e2 .slot) (parent p) (topSlot s1), Done) (by d e)
+      → (turnedBy d e s cap (turnOf (topSlot n0) e1 e2 s1 p), Done) ≡ turn
+  turn-turns over low low₁ h = reads (turnedBy d e s cap (turnOf (topSlot n0) e1 e2 s1 p), Done) (by d e)
     where
-      by : (d e : Side) → _≡_ {A = List ℕ × Climbed} (turnedBy d e s cap (topSlot n0) (e1 .slot) (e2 .slot) (parent p) (topSlot s1), Done)
-          (fixWith s cap (topSlot n0) (e1 .slot) (e2 .slot) (number d) (number e) r1 r2 (parent p) (topSlot s1) (rank s1))
-      by left left = fix-same s cap (topSlot n0) (e1 .slot) (e2 .slot) 0 0 r1 r2 (parent p) (topSlot s1) (rank s1) over low low₁ h _ refl refl
-      by right right = fix-same s cap (topSlot n0) (e1 .slot) (e2 .slot) 1 1 r1 r2 (parent p) (topSlot s1) (rank s1) over low low₁ h _ refl refl
-      by right left = fix-across s cap (topSlot n0) (e1 .slot) (e2 .slot) 1 0 r1 r2 (parent p) (topSlot s1) (rank s1) over low low₁ h _ (λ z. omega arith) refl
-      by left right = fix-across s cap (topSlot n0) (e1 .slot) (e2 .slot) 0 1 r1 r2 (parent p) (topSlot s1) (rank s1) over low low₁ h _ (λ z. omega arith) refl
+      by : (d e : Side) → _≡_ {A = List ℕ × Climbed} (turnedBy d e s cap (turnOf (topSlot n0) e1 e2 s1 p), Done)
+          (fixWith s cap (number d) (number e) (turnOf (topSlot n0) e1 e2 s1 p) r1 r2 (rank s1))
+      by left left = fix-same s cap 0 0 _ r1 r2 (rank s1) over low low₁ h _ refl refl
+      by right right = fix-same s cap 1 1 _ r1 r2 (rank s1) over low low₁ h _ refl refl
+      by right left = fix-across s cap 1 0 _ r1 r2 (rank s1) over low low₁ h _ (λ z. omega arith) refl
+      by left right = fix-across s cap 0 1 _ r1 r2 (rank s1) over low low₁ h _ (λ z. omega arith) refl

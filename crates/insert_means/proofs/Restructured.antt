@@ -9,6 +9,7 @@ use lib.Dec.{lit<}
 use Rattle.arena.specs.Words.{Long, field, put, LEFT, RANK, BACK}
 use Rattle.tree.specs.inner.Links.{spreadWith}
 use Rattle.raise.specs.inner.Restructures.{liftedOne, turnedSame, spreadBelow, turnedAcross}
+use Rattle.raise.specs.declared.turns.Turn.{Turn}
 use Rattle.wavl.specs.Entry.{Entry, slots}
 use Rattle.wavl.specs.Tree.{Side, left, right, Tree, tip, fork, node, rank, inorder}
 use Rattle.wavl.specs.Way.{Way, plug}
@@ -44,6 +45,10 @@ pub record Stands (s : List ℕ) (cap : ℕ) (l : List ℕ) (x : Tree) : Type 0 
 pub stands-on : {s t : List ℕ} {cap : ℕ} {l : List ℕ} {x y : Tree} → inorder y ≡ inorder x → Stands s cap l x → Regrown s t cap l y → Stands t cap l y
 stands-on e a b = record { words = b .words; apart = rw e (a .apart); within = rw e (a .within) }
 
+-- the slots of a restructure at the end of the way p: i under e1 under e2, s1 on e2's other side
+abbrev pub turnOf : ℕ → Entry → Entry → Tree → Way → Turn
+turnOf i e1 e2 s1 p = record { n0 = i; n1 = e1 .slot; n2 = e2 .slot; n3 = parent p; s1 = topSlot s1 }
+
 module _ (s : List ℕ) (cap : ℕ) (l : List ℕ) (few : cap ≤ noSlot) (room : Long s cap) where
   -- a new rank
   pub ranked-at : (p : Way) (d : Side) (a : Tree) (f : Entry) (r : ℕ) (b : Tree) (v : ℕ) → Stands s cap l (plug (node d a f r b) p)
@@ -65,7 +70,7 @@ module _ (s : List ℕ) (cap : ℕ) (l : List ℕ) (few : cap ≤ noSlot) (room 
     one-same left = restructure-same left left n0 f e1 r1 r1 s0 e2 r2 s1
     one-same right = restructure-same right right n0 f e1 r1 r1 s0 e2 r2 s1
 
-    pub one-side : Regrown s (turnedSame s cap (number e) (topSlot n0) (e1 .slot) (e2 .slot) (parent p) (topSlot s1)) cap l (plug (oneSide e n0 e1 r1 s0 e2 s1) p)
+    pub one-side : Regrown s (turnedSame s cap (number e) (turnOf (topSlot n0) e1 e2 s1 p)) cap l (plug (oneSide e n0 e1 r1 s0 e2 s1) p)
     unfolding turnedSame liftedOne
     one-side =
         let n1 = node e n0 e1 r1 s0 in
@@ -88,7 +93,7 @@ module _ (s : List ℕ) (cap : ℕ) (l : List ℕ) (few : cap ≤ noSlot) (room 
     across-same left = restructure-same right left (node left c f k g) tt e1 r1 r1 s0 e2 r2 s1
     across-same right = restructure-same left right (node right c f k g) tt e1 r1 r1 s0 e2 r2 s1
 
-    pub across : Regrown s (turnedAcross s cap (number e) (f .slot) (e1 .slot) (e2 .slot) (parent p) (topSlot s1)) cap l
+    pub across : Regrown s (turnedAcross s cap (number e) (turnOf (f .slot) e1 e2 s1 p)) cap l
         (plug (node e (node e s0 e1 k c) f r1 (node e g e2 k s1)) p)
     unfolding turnedAcross spreadBelow spreadWith
     across =
@@ -108,16 +113,16 @@ module _ (s : List ℕ) (cap : ℕ) (l : List ℕ) (few : cap ≤ noSlot) (room 
         rw (b .0 .near-is, b .0 .rank-is, u .0 .near-is, u .0 .far-is, u .0 .rank-is) (rw (top-node e n1 e2 r2 s1, top-node e (node e s0 e1 k c) f r1 (node e g e2 k s1)) at x)
 
 -- which of the two models the sides choose
-abbrev pub turnedBy : Side → Side → List ℕ → ℕ → ℕ → ℕ → ℕ → ℕ → ℕ → List ℕ
-turnedBy left left s cap p0 p1 p2 p3 s1 = turnedSame s cap 0 p0 p1 p2 p3 s1
-turnedBy right right s cap p0 p1 p2 p3 s1 = turnedSame s cap 1 p0 p1 p2 p3 s1
-turnedBy right left s cap p0 p1 p2 p3 s1 = turnedAcross s cap 0 p0 p1 p2 p3 s1
-turnedBy left right s cap p0 p1 p2 p3 s1 = turnedAcross s cap 1 p0 p1 p2 p3 s1
+abbrev pub turnedBy : Side → Side → List ℕ → ℕ → Turn → List ℕ
+turnedBy left left s cap t = turnedSame s cap 0 t
+turnedBy right right s cap t = turnedSame s cap 1 t
+turnedBy right left s cap t = turnedAcross s cap 0 t
+turnedBy left right s cap t = turnedAcross s cap 1 t
 
 module _ (s : List ℕ) (cap : ℕ) (l : List ℕ) (few : cap ≤ noSlot) (room : Long s cap) where
   pub restructured : (d e : Side) (n0 : Tree) (e1 : Entry) (r1 : ℕ) (s0 : Tree) (e2 : Entry) (r2 : ℕ) (s1 : Tree) (p : Way) → IsFork n0
       → Stands s cap l (plug (node e (node d n0 e1 r1 s0) e2 r2 s1) p)
-      → Regrown s (turnedBy d e s cap (topSlot n0) (e1 .slot) (e2 .slot) (parent p) (topSlot s1)) cap l (plug (restructure d e n0 e1 r1 s0 e2 s1) p)
+      → Regrown s (turnedBy d e s cap (turnOf (topSlot n0) e1 e2 s1 p)) cap l (plug (restructure d e n0 e1 r1 s0 e2 s1) p)
   restructured left left n0 e1 r1 s0 e2 r2 s1 p f T = one-side s cap l few room left n0 e1 r1 s0 e2 r2 s1 p f T
   restructured right right n0 e1 r1 s0 e2 r2 s1 p f T = one-side s cap l few room right n0 e1 r1 s0 e2 r2 s1 p f T
   restructured right left tip e1 r1 s0 e2 r2 s1 p f T = absurd f

@@ -9,18 +9,23 @@ use Rattle.tree.specs.inner.Links.{rankOf, sideOfChild, withBack, withNode, rel
 use Rattle.tree.specs.declared.Climbed.{Climbed}
 use Rattle.tree.specs.declared.Climbed.the-variants.{Done, Up}
 use Rattle.lower.specs.inner.Rotations.{turnOnce, turnTwiceWith, turnTwice}
-use Rattle.lower.specs.inner.Climb.{goUpTo, goUp, upward, lowerOne, loweredBoth, climbPastWith, climbPast, climbAtWith, climbAt, climbTurnWith, climbTurn}
+use Rattle.lower.specs.inner.Climb.{goUpTo, goUp, upward, lowerOne, loweredBoth, climbPastWith, turnAt, climbPast, climbAtWith, climbAt, climbTurnWith, climbTurn}
+use Rattle.lower.specs.declared.turns.Turn.{Turn}
+use Rattle.lower.specs.declared.climbing.Site.{Site}
 
 -- the writes of a rotation, one after another
-module _ (s : List ℕ) (cap d p0 p1 p2 s0 a b ra rank1 : ℕ) (x y z w : List ℕ) where
-  pub once-steps : x ≡ withBack s cap a p1 → y ≡ withNode x cap d p1 s0 p0 a (ra + 1) → z ≡ withNode y cap d s0 p2 p1 b rank1
-      → w ≡ relinked z cap p2 p1 s0 → w ≡ turnOnce s cap d p0 p1 p2 s0 a b ra rank1
+module _ (s : List ℕ) (cap d : ℕ) (t : Turn) (x y z w : List ℕ) where
+  pub once-steps : x ≡ withBack s cap (t .a) (t .n1) → y ≡ withNode x cap d (t .n1) (record { back = t .s0; near = t .n0; far = t .a; rank = t .ra + 1 })
+      → z ≡ withNode y cap d (t .s0) (record { back = t .n2; near = t .n1; far = t .b; rank = t .rank1 })
+      → w ≡ relinked z cap (t .n2) (t .n1) (t .s0) → w ≡ turnOnce s cap d t
   unfolding turnOnce
   once-steps e f g h = rw (← e, ← f, ← g) h
 
-module _ (s : List ℕ) (cap d p0 p1 p2 s0 a b ra rank1 : ℕ) (x y z : List ℕ) (c k : ℕ) where
-  pub twice-steps : c ≡ field s cap a (LEFT + d) → k ≡ field s cap a (RIGHT - d) → x ≡ spreadWith s cap d a p1 s0 p0 c k b ra
-      → y ≡ withNode x cap d a p2 p1 s0 rank1 → z ≡ relinked y cap p2 p1 a → z ≡ turnTwice s cap d p0 p1 p2 s0 a b ra rank1
+module _ (s : List ℕ) (cap d : ℕ) (t : Turn) (x y z : List ℕ) (c k : ℕ) where
+  pub twice-steps : c ≡ field s cap (t .a) (LEFT + d) → k ≡ field s cap (t .a) (RIGHT - d)
+      → x ≡ spreadWith s cap d (t .n1) (record { back = t .a; near = t .n0; far = c; rank = t .ra }) (t .s0) (record { back = t .a; near = k; far = t .b; rank = t .ra })
+      → y ≡ withNode x cap d (t .a) (record { back = t .n2; near = t .n1; far = t .s0; rank = t .rank1 })
+      → z ≡ relinked y cap (t .n2) (t .n1) (t .a) → z ≡ turnTwice s cap d t
   unfolding turnTwice turnTwiceWith
   twice-steps e f g h i = rw (← e, ← f, ← g, ← h) i
 
@@ -43,30 +48,30 @@ pub lowered-both : (s : List ℕ) (cap p1 s0 rank0 : ℕ) (x : List ℕ) (r : Li
 unfolding loweredBoth
 lowered-both s cap p1 s0 rank0 x r e f = rw (← e) f
 
-pub past-reads : (s : List ℕ) (cap d p0 p1 s0 rank0 rank1 rs : ℕ) (x : List ℕ × Climbed) (a b ra rb p2 : ℕ)
-    → a ≡ field s cap s0 (LEFT + d) → b ≡ field s cap s0 (RIGHT - d) → ra ≡ rankOf s cap a → rb ≡ rankOf s cap b → p2 ≡ field s cap p1 BACK
-    → x ≡ climbPastWith s cap d p0 p1 s0 rank0 rank1 rs a b ra rb p2 → x ≡ climbPast s cap d p0 p1 s0 rank0 rank1 rs
+pub past-reads : (s : List ℕ) (cap d : ℕ) (p : Site) (rs : ℕ) (x : List ℕ × Climbed) (a b ra rb n2 : ℕ)
+    → a ≡ field s cap (p .s0) (LEFT + d) → b ≡ field s cap (p .s0) (RIGHT - d) → ra ≡ rankOf s cap a → rb ≡ rankOf s cap b → n2 ≡ field s cap (p .n1) BACK
+    → x ≡ climbPastWith s cap d (turnAt p a b ra n2) (p .rank0) rs rb → x ≡ climbPast s cap d p rs
 unfolding climbPast
-past-reads s cap d p0 p1 s0 rank0 rank1 rs x a b ra rb p2 e f g h i q = rw (← e, ← f, ← g, ← h, ← i) q
+past-reads s cap d p rs x a b ra rb n2 e f g h i q = rw (← e, ← f, ← g, ← h, ← i) q
 
-pub past-both : (s : List ℕ) (cap d p0 p1 s0 rank0 rank1 rs : ℕ) (x : List ℕ × Climbed) (a b ra rb p2 : ℕ) → ra < budget → rb < budget → (rb + 1 ≡ rs → ⊥) → ra + 2 ≡ rs
-    → x ≡ loweredBoth s cap p1 s0 rank0 → x ≡ climbPastWith s cap d p0 p1 s0 rank0 rank1 rs a b ra rb p2
+pub past-both : (s : List ℕ) (cap d : ℕ) (t : Turn) (rank0 rs rb : ℕ) (x : List ℕ × Climbed) → t .ra < budget → rb < budget → (rb + 1 ≡ rs → ⊥) → t .ra + 2 ≡ rs
+    → x ≡ loweredBoth s cap (t .n1) (t .s0) rank0 → x ≡ climbPastWith s cap d t rank0 rs rb
 unfolding climbPastWith
-past-both s cap d p0 p1 s0 rank0 rank1 rs x a b ra rb p2 la lb n h e =
-    rw (lt-leb budget ra la, lt-leb budget rb lb, ne-eqb (rb + 1) rs n, eq-eqb (ra + 2) rs h) e
+past-both s cap d t rank0 rs rb x la lb n h e =
+    rw (lt-leb budget (t .ra) la, lt-leb budget rb lb, ne-eqb (rb + 1) rs n, eq-eqb (t .ra + 2) rs h) e
 
-pub at-reads : (s : List ℕ) (cap d p0 p1 s0 rank0 rank1 : ℕ) (x : List ℕ × Climbed) (rs : ℕ)
-    → rs ≡ field s cap s0 RANK → x ≡ climbAtWith s cap d p0 p1 s0 rank0 rank1 rs → x ≡ climbAt s cap d p0 p1 s0 rank0 rank1
+pub at-reads : (s : List ℕ) (cap d : ℕ) (p : Site) (x : List ℕ × Climbed) (rs : ℕ)
+    → rs ≡ field s cap (p .s0) RANK → x ≡ climbAtWith s cap d p rs → x ≡ climbAt s cap d p
 unfolding climbAt
-at-reads s cap d p0 p1 s0 rank0 rank1 x rs e q = rw (← e) q
+at-reads s cap d p x rs e q = rw (← e) q
 
 pub turn-reads : (s : List ℕ) (cap p1 d : ℕ) (x : List ℕ × Climbed) (p0 s0 rank1 rank0 : ℕ)
     → p0 ≡ field s cap p1 (LEFT + d) → s0 ≡ field s cap p1 (RIGHT - d) → rank1 ≡ field s cap p1 RANK → rank0 ≡ rankOf s cap p0
-    → x ≡ climbTurnWith s cap p1 d p0 s0 rank1 rank0 → x ≡ climbTurn s cap p1 d
+    → x ≡ climbTurnWith s cap d (record { n0 = p0; n1 = p1; s0 = s0; rank0 = rank0; rank1 = rank1 }) → x ≡ climbTurn s cap p1 d
 unfolding climbTurn
 turn-reads s cap p1 d x p0 s0 rank1 rank0 e f g h q = rw (← e, ← f, ← g, ← h) q
 
-pub turn-fits : (s : List ℕ) (cap p1 d p0 s0 rank1 rank0 : ℕ) → rank0 < budget → rank1 ≤ rank0 + 2
-    → _≡_ {A = List ℕ × Climbed} (s, Done) (climbTurnWith s cap p1 d p0 s0 rank1 rank0)
+pub turn-fits : (s : List ℕ) (cap d : ℕ) (p : Site) → p .rank0 < budget → p .rank1 ≤ p .rank0 + 2
+    → _≡_ {A = List ℕ × Climbed} (s, Done) (climbTurnWith s cap d p)
 unfolding climbTurnWith
-turn-fits s cap p1 d p0 s0 rank1 rank0 l h = rw (lt-leb budget rank0 l, le-leb rank1 (rank0 + 2) h)
+turn-fits s cap d p l h = rw (lt-leb budget (p .rank0) l, le-leb (p .rank1) (p .rank0 + 2) h)

@@ -9,58 +9,82 @@ ghost use Rattle.lower.specs.inner.Rotations.{turnOnce, turnTwice};
 use arena::words;
 use arena::words::LEFT;
 use arena::words::RIGHT;
+use tree::Node;
 
-// "rotate s0 up to n1's old rank, and n1 to a's rank plus 1": ra is the rank of a, the inner child of s0; b is the outer one.
-pub fn turn_once(
-    s: &mut [u64],
-    cap: u64,
-    d: u64,
-    p0: u64,
-    p1: u64,
-    p2: u64,
-    s0: u64,
-    a: u64,
-    b: u64,
-    ra: u64,
-    rank1: u64,
-)
+// What a rotation is made of: slots, and two ranks.
+pub struct Turn {
+    // the child of n1 that lost a rank, or no slot where the place is empty
+    pub n0: u64,
+    pub n1: u64,
+    // what stands above n1, or no slot
+    pub n2: u64,
+    // the sibling of n0, its inner child and its outer one
+    pub s0: u64,
+    pub a: u64,
+    pub b: u64,
+    // the ranks of a and of n1
+    pub ra: u64,
+    pub rank1: u64,
+}
+
+// "rotate s0 up to n1's old rank, and n1 to a's rank plus 1"
+pub fn turn_once(s: &mut [u64], cap: u64, d: u64, t: Turn)
     requires { ⌜ Room (now s) cap ⌝ }
     requires { ⌜ d ≤ 1 ⌝ }
-    requires { ⌜ p1 < cap ⌝ }
-    requires { ⌜ s0 < cap ⌝ }
-    requires { ⌜ ra < budget ⌝ }
-    ensures { λ _. ⌜ now (s .exit) ≡ turnOnce (now (s .entry)) cap d p0 p1 p2 s0 a b ra rank1 ⌝ }
+    requires { ⌜ t .n1 < cap ⌝ }
+    requires { ⌜ t .s0 < cap ⌝ }
+    requires { ⌜ t .ra < budget ⌝ }
+    ensures { λ _. ⌜ now (s .exit) ≡ turnOnce (now (s .entry)) cap d t ⌝ }
 {
-    tree::put_back(s, cap, a, p1);
-    tree::put_node(s, cap, d, p1, s0, p0, a, ra + 1);
-    tree::put_node(s, cap, d, s0, p2, p1, b, rank1);
-    tree::relink(s, cap, p2, p1, s0);
+    tree::put_back(s, cap, t.a, t.n1);
+    let rank = t.ra + 1;
+    let low = Node {
+        back: t.s0,
+        near: t.n0,
+        far: t.a,
+        rank,
+    };
+    let high = Node {
+        back: t.n2,
+        near: t.n1,
+        far: t.b,
+        rank: t.rank1,
+    };
+    tree::put_node(s, cap, d, t.n1, low);
+    tree::put_node(s, cap, d, t.s0, high);
+    tree::relink(s, cap, t.n2, t.n1, t.s0);
 }
 
 // "a rises to n1's old rank, n1 and s0 get a's old rank."
-pub fn turn_twice(
-    s: &mut [u64],
-    cap: u64,
-    d: u64,
-    p0: u64,
-    p1: u64,
-    p2: u64,
-    s0: u64,
-    a: u64,
-    b: u64,
-    ra: u64,
-    rank1: u64,
-)
+pub fn turn_twice(s: &mut [u64], cap: u64, d: u64, t: Turn)
     requires { ⌜ Room (now s) cap ⌝ }
     requires { ⌜ d ≤ 1 ⌝ }
-    requires { ⌜ p1 < cap ⌝ }
-    requires { ⌜ s0 < cap ⌝ }
-    requires { ⌜ a < cap ⌝ }
-    ensures { λ _. ⌜ now (s .exit) ≡ turnTwice (now (s .entry)) cap d p0 p1 p2 s0 a b ra rank1 ⌝ }
+    requires { ⌜ t .n1 < cap ⌝ }
+    requires { ⌜ t .s0 < cap ⌝ }
+    requires { ⌜ t .a < cap ⌝ }
+    ensures { λ _. ⌜ now (s .exit) ≡ turnTwice (now (s .entry)) cap d t ⌝ }
 {
-    let c = words::field(s, cap, a, LEFT + d);
-    let e = words::field(s, cap, a, RIGHT - d);
-    tree::spread(s, cap, d, a, p1, s0, p0, c, e, b, ra);
-    tree::put_node(s, cap, d, a, p2, p1, s0, rank1);
-    tree::relink(s, cap, p2, p1, a);
+    let c = words::field(s, cap, t.a, LEFT + d);
+    let e = words::field(s, cap, t.a, RIGHT - d);
+    let one = Node {
+        back: t.a,
+        near: t.n0,
+        far: c,
+        rank: t.ra,
+    };
+    let other = Node {
+        back: t.a,
+        near: e,
+        far: t.b,
+        rank: t.ra,
+    };
+    let high = Node {
+        back: t.n2,
+        near: t.n1,
+        far: t.s0,
+        rank: t.rank1,
+    };
+    tree::spread(s, cap, d, t.n1, one, t.s0, other);
+    tree::put_node(s, cap, d, t.a, high);
+    tree::relink(s, cap, t.n2, t.n1, t.a);
 }

@@ -10,6 +10,7 @@ use Rattle.arena.specs.Words.{Long, fields, field, put, LEFT, RIGHT, RANK, BACK
 use Rattle.arena.proofs.WordLaws.{room-put, field-same, field-off}
 use Rattle.arena.proofs.Only.{only-put}
 use Rattle.tree.specs.inner.Links.{withBack, withNode}
+use Rattle.tree.specs.declared.Node.{Node as Written}
 use Rattle.tree.proofs.Keeps.{only-back, only-node}
 use Rattle.wavl.specs.Entry.{Entry}
 use Rattle.wavl.specs.Tree.{Side, left, Tree, tip, fork, node}
@@ -60,23 +61,24 @@ module _ (s : List ℕ) (cap d back near i r far : ℕ) (hd : d ≤ 1) (room : L
   }
 
 -- a node written whole
-module _ (s : List ℕ) (cap d i back near far rank : ℕ) (hd : d ≤ 1) (hi : i < cap) where
-  pub node-new : Long s cap → Node (withNode s cap d i back near far rank) cap d back near i rank far
+module _ (s : List ℕ) (cap d i : ℕ) (n : Written) (hd : d ≤ 1) (hi : i < cap) where
+  pub node-new : Long s cap → Node (withNode s cap d i n) cap d (n .back) (n .near) i (n .rank) (n .far)
   unfolding withNode
   node-new room =
-      let a = put s cap i BACK back in
-      let b = put a cap i (LEFT + d) near in
-      let c = put b cap i (RIGHT - d) far in
-      let ra : Long a cap = room-put s cap i BACK back room in
-      let rb : Long b cap = room-put a cap i (LEFT + d) near ra in
-      let rc : Long c cap = room-put b cap i (RIGHT - d) far rb in
-      node-put-rank c cap d back near i _ far hd rc
-      (node-put-far b cap d back near i _ _ hd rb
-      (node-put-near a cap d back _ i _ _ hd ra
-      (node-put-back s cap d _ _ i _ _ hd room (record { low = hi; back-is = refl; near-is = refl; far-is = refl; rank-is = refl }) back) near) far) rank
+      let a = put s cap i BACK (n .back) in
+      let b = put a cap i (LEFT + d) (n .near) in
+      let c = put b cap i (RIGHT - d) (n .far) in
+      let ra : Long a cap = room-put s cap i BACK (n .back) room in
+      let rb : Long b cap = room-put a cap i (LEFT + d) (n .near) ra in
+      let rc : Long c cap = room-put b cap i (RIGHT - d) (n .far) rb in
+      node-put-rank c cap d _ _ i _ _ hd rc
+      (node-put-far b cap d _ _ i _ _ hd rb
+      (node-put-near a cap d _ _ i _ _ hd ra
+      (node-put-back s cap d _ _ i _ _ hd room (record { low = hi; back-is = refl; near-is = refl; far-is = refl; rank-is = refl })
+      (n .back)) (n .near)) (n .far)) (n .rank)
 
-  pub touch-node : Touch s (withNode s cap d i back near far rank) cap i
-  touch-node = only-node s d i back near far rank hd hi (λ g lo up. refl)
+  pub touch-node : Touch s (withNode s cap d i n) cap i
+  touch-node = only-node s d i n hd hi (λ g lo up. refl)
 
 -- a back link, written where there is a slot
 module _ (s : List ℕ) (cap i b : ℕ) where

@@ -10,6 +10,7 @@ use Rattle.arena.specs.Words.{Long, LEFT, BACK}
 use Rattle.arena.specs.inner.Only.{Only}
 use Rattle.arena.proofs.Only.{only-trans, only-room}
 use Rattle.tree.specs.inner.Links.{withBack, withNode}
+use Rattle.tree.specs.declared.Node.{Node as Written}
 use Rattle.tree.proofs.Keeps.{only-back, only-node}
 use Rattle.wavl.specs.Entry.{Entry}
 use Rattle.wavl.specs.Tree.{Side, left, Tree, tip, fork, node}
@@ -32,6 +33,16 @@ top-has cap (fork a e r b) few l = has-top a e r b left (e .slot) refl
 
 -- "a rises to n1's old rank, n1 and s0 get a's old rank"; "n0 takes n2's place with n1's rank, and n1 and n2 get n0's old rank"
 module _ (s : List ℕ) (cap back : ℕ) (d : Side) (u c e v : Tree) (y x z : Entry) (r k : ℕ) (few : cap ≤ noSlot) (room : Long s cap) where
+  -- y, z and x as they are written
+  abbrev wy : Written
+  wy = record { back = x .slot; near = topSlot u; far = topSlot c; rank = r }
+
+  abbrev wz : Written
+  wz = record { back = x .slot; near = topSlot e; far = topSlot v; rank = r }
+
+  abbrev wx : Written
+  wx = record { back = back; near = y .slot; far = z .slot; rank = k }
+
   abbrev sa : List ℕ
   sa = withBack s cap (topSlot c) (y .slot)
 
@@ -39,13 +50,13 @@ module _ (s : List ℕ) (cap back : ℕ) (d : Side) (u c e v : Tree) (y x z : En
   sb = withBack sa cap (topSlot e) (z .slot)
 
   abbrev sc : List ℕ
-  sc = withNode sb cap (number d) (y .slot) (x .slot) (topSlot u) (topSlot c) r
+  sc = withNode sb cap (number d) (y .slot) wy
 
   abbrev sd : List ℕ
-  sd = withNode sc cap (number d) (z .slot) (x .slot) (topSlot e) (topSlot v) r
+  sd = withNode sc cap (number d) (z .slot) wz
 
   abbrev pub spread : List ℕ
-  spread = withNode sd cap (number d) (x .slot) back (y .slot) (z .slot) k
+  spread = withNode sd cap (number d) (x .slot) wx
 
   abbrev pub spreadTree : Tree
   spreadTree = node d (node d u y r c) x k (node d e z r v)
@@ -59,9 +70,9 @@ module _ (s : List ℕ) (cap back : ℕ) (d : Side) (u c e v : Tree) (y x z : En
       let far = has-far (node d u y r c) x k (node d e z r v) d in
       only-trans (only-back s (topSlot c) (y .slot) (λ l. w _ BACK (near _ (has-far u y r c d _ (top-has cap c few l))) (omega arith) (omega arith)))
       (only-trans (only-back sa (topSlot e) (z .slot) (λ l. w _ BACK (far _ (has-near e z r v d _ (top-has cap e few l))) (omega arith) (omega arith)))
-      (only-trans (only-node sb (number d) (y .slot) (x .slot) (topSlot u) (topSlot c) r m ly (λ g. w _ g (near _ (has-top u y r c d _ refl))))
-      (only-trans (only-node sc (number d) (z .slot) (x .slot) (topSlot e) (topSlot v) r m lz (λ g. w _ g (far _ (has-top e z r v d _ refl))))
-      (only-node sd (number d) (x .slot) back (y .slot) (z .slot) k m lx (λ g. w _ g (has-top (node d u y r c) x k (node d e z r v) d _ refl))))))
+      (only-trans (only-node sb (number d) (y .slot) wy m ly (λ g. w _ g (near _ (has-top u y r c d _ refl))))
+      (only-trans (only-node sc (number d) (z .slot) wz m lz (λ g. w _ g (far _ (has-top e z r v d _ refl))))
+      (only-node sd (number d) (x .slot) wx m lx (λ g. w _ g (has-top (node d u y r c) x k (node d e z r v) d _ refl))))))
 
   module _ (ly : y .slot < cap) (lx : x .slot < cap) (lz : z .slot < cap) (D : Distinct spreadTree)
       (U : Links s cap (y .slot) u) (bc : ℕ) (C : Links s cap bc c) (be : ℕ) (E : Links s cap be e) (O : Links s cap (z .slot) v) where
@@ -84,16 +95,16 @@ module _ (s : List ℕ) (cap back : ℕ) (d : Side) (u c e v : Tree) (y x z : En
     room-b = only-room (touch-back sa cap (topSlot e) (z .slot)) room-a
 
     room-c : Long sc cap
-    room-c = only-room (touch-node sb cap (number d) (y .slot) (x .slot) (topSlot u) (topSlot c) r m ly) room-b
+    room-c = only-room (touch-node sb cap (number d) (y .slot) wy m ly) room-b
 
     room-d : Long sd cap
-    room-d = only-room (touch-node sc cap (number d) (z .slot) (x .slot) (topSlot e) (topSlot v) r m lz) room-c
+    room-d = only-room (touch-node sc cap (number d) (z .slot) wz m lz) room-c
 
     touch-d : Touch sc sd cap (z .slot)
-    touch-d = touch-node sc cap (number d) (z .slot) (x .slot) (topSlot e) (topSlot v) r m lz
+    touch-d = touch-node sc cap (number d) (z .slot) wz m lz
 
     touch-e : Touch sd spread cap (x .slot)
-    touch-e = touch-node sd cap (number d) (x .slot) back (y .slot) (z .slot) k m lx
+    touch-e = touch-node sd cap (number d) (x .slot) wx m lx
 
     -- a tree whose top's back link was not written
     past-c : (t : Tree) (b : ℕ) → ((j : ℕ) → Has j c → ¬ (Has j t)) → Links s cap b t → Links sa cap b t
@@ -107,7 +118,7 @@ module _ (s : List ℕ) (cap back : ℕ) (d : Side) (u c e v : Tree) (y x z : En
     late t b ny nz nx l =
         carry sd spread cap (x .slot) touch-e t b nx
         (carry sc sd cap (z .slot) touch-d t b nz
-        (carry sb sc cap (y .slot) (touch-node sb cap (number d) (y .slot) (x .slot) (topSlot u) (topSlot c) r m ly) t b ny l))
+        (carry sb sc cap (y .slot) (touch-node sb cap (number d) (y .slot) wy m ly) t b ny l))
 
     -- slots of the one side are not on the other
     near-in : (t : Tree) → ((j : ℕ) → Has j t → Has j (node d u y r c)) → Links sb cap (y .slot) t → ¬ (Has (y .slot) t) → Links spread cap (y .slot) t
@@ -132,11 +143,11 @@ module _ (s : List ℕ) (cap back : ℕ) (d : Side) (u c e v : Tree) (y x z : En
         let ny =
         carry-node sd spread cap (x .slot) touch-e (number d) (x .slot) (topSlot u) (y .slot) r (topSlot c) m y-x
         (carry-node sc sd cap (z .slot) touch-d (number d) (x .slot) (topSlot u) (y .slot) r (topSlot c) m y-z
-        (node-new sb cap (number d) (y .slot) (x .slot) (topSlot u) (topSlot c) r m ly room-b)) in
+        (node-new sb cap (number d) (y .slot) wy m ly room-b)) in
         let nz =
         carry-node sd spread cap (x .slot) touch-e (number d) (x .slot) (topSlot e) (z .slot) r (topSlot v) m z-x
-        (node-new sc cap (number d) (z .slot) (x .slot) (topSlot e) (topSlot v) r m lz room-c) in
-        let nx = node-new sd cap (number d) (x .slot) back (y .slot) (z .slot) k m lx room-d in
+        (node-new sc cap (number d) (z .slot) wz m lz room-c) in
+        let nx = node-new sd cap (number d) (x .slot) wx m lx room-d in
         closed spread cap d back (node d u y r c) x k (node d e z r v) (rw (top-node d u y r c, top-node d e z r v) nx)
         (closed spread cap d (x .slot) u y r c ny (near-in u in-u lu (B .near)) (near-in c in-c lc (B .far)))
         (closed spread cap d (x .slot) e z r v nz (far-in e in-e le (G .near)) (far-in v in-v lv (G .far)))

@@ -11,6 +11,7 @@ use Rattle.arena.specs.inner.Only.{Only}
 use Rattle.arena.proofs.WordLaws.{room-put}
 use Rattle.arena.proofs.Only.{only-trans, only-room, only-put}
 use Rattle.tree.specs.inner.Links.{withBack, withNode}
+use Rattle.tree.specs.declared.Node.{Node as Written}
 use Rattle.tree.proofs.Keeps.{only-back, only-node}
 use Rattle.wavl.specs.Entry.{Entry}
 use Rattle.wavl.specs.Tree.{Side, Tree, node}
@@ -24,14 +25,21 @@ use Rattle.queue_of_store.proofs.Turned.{top-off, top-has}
 
 -- "rotate s0 up to n1's old rank, and n1 to a's rank plus 1": y below x, with u and c; v on x's other side
 module _ (s : List ℕ) (cap back : ℕ) (d : Side) (u c v : Tree) (y x : Entry) (r k : ℕ) (few : cap ≤ noSlot) (room : Long s cap) where
+  -- y and x as they are written
+  abbrev wy : Written
+  wy = record { back = x .slot; near = topSlot u; far = topSlot c; rank = r }
+
+  abbrev wx : Written
+  wx = record { back = back; near = y .slot; far = topSlot v; rank = k }
+
   abbrev ra : List ℕ
   ra = withBack s cap (topSlot c) (y .slot)
 
   abbrev rb : List ℕ
-  rb = withNode ra cap (number d) (y .slot) (x .slot) (topSlot u) (topSlot c) r
+  rb = withNode ra cap (number d) (y .slot) wy
 
   abbrev pub rolled : List ℕ
-  rolled = withNode rb cap (number d) (x .slot) back (y .slot) (topSlot v) k
+  rolled = withNode rb cap (number d) (x .slot) wx
 
   abbrev pub rolledTree : Tree
   rolledTree = node d (node d u y r c) x k v
@@ -42,8 +50,8 @@ module _ (s : List ℕ) (cap back : ℕ) (d : Side) (u c v : Tree) (y x : Entry)
       let m = number-small d in
       let near = has-near (node d u y r c) x k v d in
       only-trans (only-back s (topSlot c) (y .slot) (λ l. w _ BACK (near _ (has-far u y r c d _ (top-has cap c few l))) (omega arith) (omega arith)))
-      (only-trans (only-node ra (number d) (y .slot) (x .slot) (topSlot u) (topSlot c) r m ly (λ g. w _ g (near _ (has-top u y r c d _ refl))))
-      (only-node rb (number d) (x .slot) back (y .slot) (topSlot v) k m lx (λ g. w _ g (has-top (node d u y r c) x k v d _ refl))))
+      (only-trans (only-node ra (number d) (y .slot) wy m ly (λ g. w _ g (near _ (has-top u y r c d _ refl))))
+      (only-node rb (number d) (x .slot) wx m lx (λ g. w _ g (has-top (node d u y r c) x k v d _ refl))))
 
   module _ (ly : y .slot < cap) (lx : x .slot < cap) (D : Distinct rolledTree)
       (U : Links s cap (y .slot) u) (bc : ℕ) (C : Links s cap bc c) (O : Links s cap (x .slot) v) where
@@ -60,13 +68,13 @@ module _ (s : List ℕ) (cap back : ℕ) (d : Side) (u c v : Tree) (y x : Entry)
     room-a = only-room (touch-back s cap (topSlot c) (y .slot)) room
 
     room-b : Long rb cap
-    room-b = only-room (touch-node ra cap (number d) (y .slot) (x .slot) (topSlot u) (topSlot c) r m ly) room-a
+    room-b = only-room (touch-node ra cap (number d) (y .slot) wy m ly) room-a
 
     touch-b : Touch ra rb cap (y .slot)
-    touch-b = touch-node ra cap (number d) (y .slot) (x .slot) (topSlot u) (topSlot c) r m ly
+    touch-b = touch-node ra cap (number d) (y .slot) wy m ly
 
     touch-c : Touch rb rolled cap (x .slot)
-    touch-c = touch-node rb cap (number d) (x .slot) back (y .slot) (topSlot v) k m lx
+    touch-c = touch-node rb cap (number d) (x .slot) wx m lx
 
     past-c : (t : Tree) (b : ℕ) → ((j : ℕ) → Has j c → ¬ (Has j t)) → Links s cap b t → Links ra cap b t
     past-c t b n l = carry s ra cap (topSlot c) (touch-back s cap (topSlot c) (y .slot)) t b (top-off s cap b c t few l n) l
@@ -84,12 +92,16 @@ module _ (s : List ℕ) (cap back : ℕ) (d : Side) (u c v : Tree) (y x : Entry)
         let lv = late v (x .slot) (λ h. A .both _ (has-top u y r c d _ refl) h) (A .far) (past-c v (x .slot) (λ j h g. A .both j (in-c j h) g) O) in
         let ny =
         carry-node rb rolled cap (x .slot) touch-c (number d) (x .slot) (topSlot u) (y .slot) r (topSlot c) m y-x
-        (node-new ra cap (number d) (y .slot) (x .slot) (topSlot u) (topSlot c) r m ly room-a) in
-        let nx = node-new rb cap (number d) (x .slot) back (y .slot) (topSlot v) k m lx room-b in
+        (node-new ra cap (number d) (y .slot) wy m ly room-a) in
+        let nx = node-new rb cap (number d) (x .slot) wx m lx room-b in
         closed rolled cap d back (node d u y r c) x k v (rw (top-node d u y r c) nx) (closed rolled cap d (x .slot) u y r c ny lu lc) lv
 
 -- "n1 takes n2's place and n2 gets n0's rank": x keeps u and its rank k, and gets y on the other side, with c and v
 module _ (s : List ℕ) (cap back : ℕ) (d : Side) (u c v : Tree) (x y : Entry) (k r : ℕ) (few : cap ≤ noSlot) (room : Long s cap) where
+  -- y as it is written
+  abbrev low : Written
+  low = record { back = x .slot; near = topSlot c; far = topSlot v; rank = r }
+
   abbrev la : List ℕ
   la = withBack s cap (topSlot c) (y .slot)
 
@@ -100,7 +112,7 @@ module _ (s : List ℕ) (cap back : ℕ) (d : Side) (u c v : Tree) (x y : Entry)
   lc = put lb cap (x .slot) BACK back
 
   abbrev pub lifted : List ℕ
-  lifted = withNode lc cap (number d) (y .slot) (x .slot) (topSlot c) (topSlot v) r
+  lifted = withNode lc cap (number d) (y .slot) low
 
   abbrev pub liftedTree : Tree
   liftedTree = node d u x k (node d c y r v)
@@ -114,7 +126,7 @@ module _ (s : List ℕ) (cap back : ℕ) (d : Side) (u c v : Tree) (x y : Entry)
       only-trans (only-back s (topSlot c) (y .slot) (λ l. w _ BACK (far _ (has-near c y r v d _ (top-has cap c few l))) (omega arith) (omega arith)))
       (only-trans (only-put la (x .slot) (RIGHT - number d) (y .slot) lx (omega arith) (w _ _ top (omega arith) (omega arith)))
       (only-trans (only-put lb (x .slot) BACK back lx (omega arith) (w _ _ top (omega arith) (omega arith)))
-      (only-node lc (number d) (y .slot) (x .slot) (topSlot c) (topSlot v) r m ly (λ g. w _ g (far _ (has-top c y r v d _ refl))))))
+      (only-node lc (number d) (y .slot) low m ly (λ g. w _ g (far _ (has-top c y r v d _ refl))))))
 
   module _ (ly : y .slot < cap) (D : Distinct liftedTree) (b₀ f₀ : ℕ) (N : Node s cap (number d) b₀ (topSlot u) (x .slot) k f₀)
       (U : Links s cap (x .slot) u) (bc : ℕ) (C : Links s cap bc c) (O : Links s cap (y .slot) v) where
@@ -149,7 +161,7 @@ module _ (s : List ℕ) (cap back : ℕ) (d : Side) (u c v : Tree) (x y : Entry)
     touch-lc = only-put lb (x .slot) BACK back lx (lit< tt) refl
 
     touch-ld : Touch lc lifted cap (y .slot)
-    touch-ld = touch-node lc cap (number d) (y .slot) (x .slot) (topSlot c) (topSlot v) r n≤ ly
+    touch-ld = touch-node lc cap (number d) (y .slot) low n≤ ly
 
     past-lc : (t : Tree) (b : ℕ) → ((j : ℕ) → Has j c → ¬ (Has j t)) → Links s cap b t → Links la cap b t
     past-lc t b n l = carry s la cap (topSlot c) touch-la t b (top-off s cap b c t few l n) l
@@ -171,5 +183,5 @@ module _ (s : List ℕ) (cap back : ℕ) (d : Side) (u c v : Tree) (x y : Entry)
         let n₁ = node-put-far la cap (number d) b₀ (topSlot u) (x .slot) k f₀ n≤ room-la n₀ (y .slot) in
         let n₂ = node-put-back lb cap (number d) b₀ (topSlot u) (x .slot) k (y .slot) n≤ room-lb n₁ back in
         let nx = carry-node lc lifted cap (y .slot) touch-ld (number d) back (topSlot u) (x .slot) k (y .slot) n≤ x-y n₂ in
-        let ny = node-new lc cap (number d) (y .slot) (x .slot) (topSlot c) (topSlot v) r n≤ ly room-lc in
+        let ny = node-new lc cap (number d) (y .slot) low n≤ ly room-lc in
         closed lifted cap d back u x k (node d c y r v) (rw (top-node d c y r v) nx) lu (closed lifted cap d (x .slot) c y r v ny lc′ lv)

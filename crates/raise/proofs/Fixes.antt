@@ -10,6 +10,7 @@ use Rattle.tree.specs.inner.Links.{rankOf, sideOfChild}
 use Rattle.tree.specs.declared.Climbed.{Climbed}
 use Rattle.tree.specs.declared.Climbed.the-variants.{Done, Up}
 use Rattle.raise.specs.inner.Restructures.{turnedSame, turnedAcross}
+use Rattle.raise.specs.declared.turns.Turn.{Turn}
 use Rattle.raise.specs.inner.Ranks.{above, raisedUp, fixWith, fixTurn, raiseFrom, climbedTo, climbedAbove, rebalanced}
 
 module _ (s : List ℕ) (cap p2 p3 r1 : ℕ) (x : List ℕ) (e : x ≡ put s cap p2 RANK (r1 + 1)) where
@@ -21,23 +22,23 @@ module _ (s : List ℕ) (cap p2 p3 r1 : ℕ) (x : List ℕ) (e : x ≡ put s cap
   unfolding raisedUp above
   raise-done h = rw (← e, le-ltb p3 cap h)
 
-module _ (s : List ℕ) (cap p0 p1 p2 d01 d12 : ℕ) where
-  pub fix-reads : (x : List ℕ × Climbed) (r1 r2 p3 s1 rs1 : ℕ) → r1 ≡ field s cap p1 RANK → r2 ≡ field s cap p2 RANK → p3 ≡ field s cap p2 BACK
-      → s1 ≡ field s cap p2 (RIGHT - d12) → rs1 ≡ rankOf s cap s1
-      → x ≡ fixWith s cap p0 p1 p2 d01 d12 r1 r2 p3 s1 rs1 → x ≡ fixTurn s cap p0 p1 p2 d01 d12
-  unfolding fixTurn
-  fix-reads x r1 r2 p3 s1 rs1 e₁ e₂ e₃ e₄ e₅ e = rw (← e₁, ← e₂, ← e₃, ← e₄, ← e₅) e
+pub fix-reads : (s : List ℕ) (cap p0 p1 p2 d01 d12 : ℕ) (x : List ℕ × Climbed) (r1 r2 p3 s1 rs1 : ℕ)
+    → r1 ≡ field s cap p1 RANK → r2 ≡ field s cap p2 RANK → p3 ≡ field s cap p2 BACK → s1 ≡ field s cap p2 (RIGHT - d12) → rs1 ≡ rankOf s cap s1
+    → x ≡ fixWith s cap d01 d12 (record { n0 = p0; n1 = p1; n2 = p2; n3 = p3; s1 = s1 }) r1 r2 rs1 → x ≡ fixTurn s cap p0 p1 p2 d01 d12
+unfolding fixTurn
+fix-reads s cap p0 p1 p2 d01 d12 x r1 r2 p3 s1 rs1 e₁ e₂ e₃ e₄ e₅ e = rw (← e₁, ← e₂, ← e₃, ← e₄, ← e₅) e
 
-  pub fix-low : (r1 r2 p3 s1 rs1 : ℕ) → r1 < r2 → _≡_ {A = List ℕ × Climbed} (s, Done) (fixWith s cap p0 p1 p2 d01 d12 r1 r2 p3 s1 rs1)
+module _ (s : List ℕ) (cap d01 d12 : ℕ) (t : Turn) (r1 r2 rs1 : ℕ) where
+  pub fix-low : r1 < r2 → _≡_ {A = List ℕ × Climbed} (s, Done) (fixWith s cap d01 d12 t r1 r2 rs1)
   unfolding fixWith
-  fix-low r1 r2 p3 s1 rs1 h = rw (lt-ltb r1 r2 h)
+  fix-low h = rw (lt-ltb r1 r2 h)
 
-  module _ (r1 r2 p3 s1 rs1 : ℕ) (over : r2 ≤ r1) (low : r1 < budget) (low₁ : rs1 < budget) (gap : rs1 + 1 ≡ r2 → ⊥) (x : List ℕ) where
-    pub fix-same : d01 ≡ d12 → x ≡ turnedSame s cap d01 p0 p1 p2 p3 s1 → _≡_ {A = List ℕ × Climbed} (x, Done) (fixWith s cap p0 p1 p2 d01 d12 r1 r2 p3 s1 rs1)
+  module _ (over : r2 ≤ r1) (low : r1 < budget) (low₁ : rs1 < budget) (gap : rs1 + 1 ≡ r2 → ⊥) (x : List ℕ) where
+    pub fix-same : d01 ≡ d12 → x ≡ turnedSame s cap d01 t → _≡_ {A = List ℕ × Climbed} (x, Done) (fixWith s cap d01 d12 t r1 r2 rs1)
     unfolding fixWith
     fix-same d e = rw (le-ltb r1 r2 over, lt-leb budget r1 low, lt-leb budget rs1 low₁, ne-eqb (rs1 + 1) r2 gap, eq-eqb d01 d12 d, e)
 
-    pub fix-across : (d01 ≡ d12 → ⊥) → x ≡ turnedAcross s cap d12 p0 p1 p2 p3 s1 → _≡_ {A = List ℕ × Climbed} (x, Done) (fixWith s cap p0 p1 p2 d01 d12 r1 r2 p3 s1 rs1)
+    pub fix-across : (d01 ≡ d12 → ⊥) → x ≡ turnedAcross s cap d12 t → _≡_ {A = List ℕ × Climbed} (x, Done) (fixWith s cap d01 d12 t r1 r2 rs1)
     unfolding fixWith
     fix-across d e = rw (le-ltb r1 r2 over, lt-leb budget r1 low, lt-leb budget rs1 low₁, ne-eqb (rs1 + 1) r2 gap, ne-eqb d01 d12 d, e)
 

@@ -14,23 +14,24 @@ use Rattle.tree.specs.inner.Kept.{TreeOnly}
 use Rattle.tree.specs.declared.Climbed.the-variants.{Done, Up}
 use Rattle.tree.proofs.Climb.{Turned, turned-done, turned-bad, Settled, on-only}
 use Rattle.raise.specs.inner.Restructures.{liftedOne, turnedSame, spreadBelow, turnedAcross}
+use Rattle.raise.specs.declared.turns.Turn.{Turn}
 use Rattle.raise.specs.inner.Ranks.{above, raisedUp, fixWith, fixTurn, raiseFrom, climbedTo, climbedAbove, rebalanced}
 use Rattle.tree.proofs.Keeps.{side-small, back-only, relinked-only, node-only, spread-only}
 
-module _ (s : List ℕ) (cap d p0 p1 p2 p3 : ℕ) (h0 : p0 < cap) (h1 : p1 < cap) (h2 : p2 < cap) (hd : d ≤ 1) where
-  pub same-only : (s1 : ℕ) → TreeOnly s (turnedSame s cap d p0 p1 p2 p3 s1) cap
+module _ (s : List ℕ) (cap d : ℕ) (t : Turn) (h0 : t .n0 < cap) (h1 : t .n1 < cap) (h2 : t .n2 < cap) (hd : d ≤ 1) where
+  pub same-only : TreeOnly s (turnedSame s cap d t) cap
   unfolding turnedSame liftedOne
-  same-only s1 =
+  same-only =
       only-trans (back-only _ _ _ _)
       (only-trans (only-put _ _ _ _ h1 (omega arith) (omega arith))
       (only-trans (only-put _ _ _ _ h1 (omega arith) (omega arith))
-      (only-trans (node-only _ _ _ _ _ _ _ _ h2 hd) (relinked-only _ _ _ _ _))))
+      (only-trans (node-only _ _ _ _ _ h2 hd) (relinked-only _ _ _ _ _))))
 
-  pub across-only : (s1 : ℕ) → TreeOnly s (turnedAcross s cap d p0 p1 p2 p3 s1) cap
+  pub across-only : TreeOnly s (turnedAcross s cap d t) cap
   unfolding turnedAcross spreadBelow
-  across-only s1 =
-      only-trans (spread-only _ _ _ _ _ _ _ _ _ _ _ h1 h2 hd)
-      (only-trans (node-only _ _ _ _ _ _ _ _ h0 hd) (relinked-only _ _ _ _ _))
+  across-only =
+      only-trans (spread-only _ _ _ _ _ _ _ h1 h2 hd)
+      (only-trans (node-only _ _ _ _ _ h0 hd) (relinked-only _ _ _ _ _))
 
 pub raised-only : (s : List ℕ) (cap p2 p3 r1 : ℕ) → p2 < cap → Turned s cap (raisedUp s cap p2 p3 r1)
 unfolding raisedUp above
@@ -39,20 +40,20 @@ raised-only s cap p2 p3 r1 h2 =
     let o : TreeOnly s t cap = only-put s p2 RANK (r1 + 1) h2 (omega arith) (omega arith) in
     either (Turned s cap) (ltb p3 cap) (t, Up p3 (sideOfChild t cap p3 p2)) (t, Done) (λ e. (o, (ltb-true p3 cap e, side-small _ _ _ _))) (λ e. (o, tt))
 
-module _ (s : List ℕ) (cap p0 p1 p2 d01 d12 : ℕ) (h0 : p0 < cap) (h1 : p1 < cap) (h2 : p2 < cap) (e1 : d01 ≤ 1) (e2 : d12 ≤ 1) where
-  with-only : (r1 r2 p3 s1 rs1 : ℕ) → Turned s cap (fixWith s cap p0 p1 p2 d01 d12 r1 r2 p3 s1 rs1)
+module _ (s : List ℕ) (cap d01 d12 : ℕ) (t : Turn) (h0 : t .n0 < cap) (h1 : t .n1 < cap) (h2 : t .n2 < cap) (e1 : d01 ≤ 1) (e2 : d12 ≤ 1) where
+  with-only : (r1 r2 rs1 : ℕ) → Turned s cap (fixWith s cap d01 d12 t r1 r2 rs1)
   unfolding fixWith
-  with-only r1 r2 p3 s1 rs1 =
+  with-only r1 r2 rs1 =
       either (Turned s cap) (ltb r1 r2) _ _ (λ e. turned-done s s cap only-none)
       (λ e. either (Turned s cap) (leb budget r1) _ _ (λ f. turned-bad s cap)
       (λ f. either (Turned s cap) (leb budget rs1) _ _ (λ g. turned-bad s cap)
-      (λ g. either (Turned s cap) (eqb (rs1 + 1) r2) _ _ (λ h. raised-only s cap p2 p3 r1 h2)
-      (λ h. either (Turned s cap) (eqb d01 d12) _ _ (λ k. turned-done s _ cap (same-only s cap d01 p0 p1 p2 p3 h0 h1 h2 e1 s1))
-      (λ k. turned-done s _ cap (across-only s cap d12 p0 p1 p2 p3 h0 h1 h2 e2 s1))))))
+      (λ g. either (Turned s cap) (eqb (rs1 + 1) r2) _ _ (λ h. raised-only s cap (t .n2) (t .n3) r1 h2)
+      (λ h. either (Turned s cap) (eqb d01 d12) _ _ (λ k. turned-done s _ cap (same-only s cap d01 t h0 h1 h2 e1))
+      (λ k. turned-done s _ cap (across-only s cap d12 t h0 h1 h2 e2))))))
 
-  pub fix-only : Turned s cap (fixTurn s cap p0 p1 p2 d01 d12)
-  unfolding fixTurn
-  fix-only = with-only _ _ _ _ _
+pub fix-only : (s : List ℕ) (cap p0 p1 p2 d01 d12 : ℕ) → p0 < cap → p1 < cap → p2 < cap → d01 ≤ 1 → d12 ≤ 1 → Turned s cap (fixTurn s cap p0 p1 p2 d01 d12)
+unfolding fixTurn
+fix-only s cap p0 p1 p2 d01 d12 h0 h1 h2 e1 e2 = with-only s cap d01 d12 _ h0 h1 h2 e1 e2 _ _ _
 
 pub climb-only : (fuel : ℕ) (s : List ℕ) (cap p0 p1 p2 d01 d12 : ℕ) → p0 < cap → p1 < cap → p2 < cap → d01 ≤ 1 → d12 ≤ 1
     → TreeOnly s (raiseFrom fuel s cap p0 p1 p2 d01 d12 .0) cap

@@ -8,6 +8,7 @@ ghost use Rattle.arena.specs.inner.Budget.{budget};
 ghost use Rattle.tree.specs.inner.Climb.{Standing};
 ghost use Rattle.raise.specs.inner.Ranks.{raisedUp, fixTurn, raiseFrom, climbedAbove, rebalanced};
 use crate::turns;
+use crate::turns::Turn;
 use arena::words;
 use arena::words::BACK;
 use arena::words::BUDGET;
@@ -44,9 +45,14 @@ fn fix_turn(s: &mut [u64], cap: u64, p0: u64, p1: u64, p2: u64, d01: u64, d12: u
 {
     let r1 = words::field(s, cap, p1, RANK);
     let r2 = words::field(s, cap, p2, RANK);
-    let p3 = words::field(s, cap, p2, BACK);
-    let s1 = words::field(s, cap, p2, RIGHT - d12);
-    let rs1 = tree::rank_of(s, cap, s1);
+    let t = Turn {
+        n0: p0,
+        n1: p1,
+        n2: p2,
+        n3: words::field(s, cap, p2, BACK),
+        s1: words::field(s, cap, p2, RIGHT - d12),
+    };
+    let rs1 = tree::rank_of(s, cap, t.s1);
     if r1 < r2 {
         return Climbed::Done;
     }
@@ -57,13 +63,13 @@ fn fix_turn(s: &mut [u64], cap: u64, p0: u64, p1: u64, p2: u64, d01: u64, d12: u
         return Climbed::NotSound;
     }
     if rs1 + 1 == r2 {
-        return raise(s, cap, p2, p3, r1);
+        return raise(s, cap, p2, t.n3, r1);
     }
     if d01 == d12 {
-        turns::turn_same(s, cap, d01, p0, p1, p2, p3, s1);
+        turns::turn_same(s, cap, d01, t);
         return Climbed::Done;
     }
-    turns::turn_across(s, cap, d12, p0, p1, p2, p3, s1);
+    turns::turn_across(s, cap, d12, t);
     Climbed::Done
 }
 

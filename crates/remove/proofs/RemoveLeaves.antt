@@ -51,7 +51,7 @@ lift-only s cap m =
 pub replaced-only : (s : List ℕ) (cap i m : ℕ) → m < cap → TreeOnly s (nodeReplaced s cap i m) cap
 unfolding nodeReplaced standsIn
 replaced-only s cap i m hm =
-    only-trans (node-only _ _ _ _ _ _ _ _ hm (omega arith))
+    only-trans (node-only _ _ _ _ _ hm (omega arith))
     (only-trans (back-only _ _ _ _) (only-trans (back-only _ _ _ _) (relinked-only _ _ _ _ _)))
 
 pub bare-only : (s : List ℕ) (cap q : ℕ) → q < cap → Settled s cap (settleBare s cap q)

@@ -11,6 +11,7 @@ use arena::words::LEFT;
 use arena::words::RANK;
 use arena::words::RIGHT;
 use handle::Handle;
+use tree::Node;
 
 // Where a node was lifted out: its parent, and the side on which it hung.
 pub struct Lifted {
@@ -58,16 +59,16 @@ pub fn lift(s: &mut [u64], cap: u64, m: u64) -> Lifted
     Lifted { under: q, side: e }
 }
 
-// m stands where i stood: under b, over l and r, with the rank k.
-fn stand(s: &mut [u64], cap: u64, i: u64, m: u64, l: u64, r: u64, b: u64, k: u64)
+// m stands where i stood, as the node n, whose near child is the left one.
+fn stand(s: &mut [u64], cap: u64, i: u64, m: u64, n: Node)
     requires { ⌜ Room (now s) cap ⌝ }
     requires { ⌜ m < cap ⌝ }
-    ensures { λ _. ⌜ now (s .exit) ≡ standsIn (now (s .entry)) cap i m l r b k ⌝ }
+    ensures { λ _. ⌜ now (s .exit) ≡ standsIn (now (s .entry)) cap i m n ⌝ }
 {
-    tree::put_node(s, cap, 0, m, b, l, r, k);
-    tree::put_back(s, cap, l, m);
-    tree::put_back(s, cap, r, m);
-    tree::relink(s, cap, b, i, m);
+    tree::put_node(s, cap, 0, m, n);
+    tree::put_back(s, cap, n.near, m);
+    tree::put_back(s, cap, n.far, m);
+    tree::relink(s, cap, n.back, i, m);
 }
 
 // "the replacement takes its rank and place"
@@ -77,9 +78,15 @@ pub fn replace(s: &mut [u64], cap: u64, i: u64, m: u64)
     requires { ⌜ m < cap ⌝ }
     ensures { λ _. ⌜ now (s .exit) ≡ nodeReplaced (now (s .entry)) cap i m ⌝ }
 {
-    let l = words::field(s, cap, i, LEFT);
-    let r = words::field(s, cap, i, RIGHT);
-    let b = words::field(s, cap, i, BACK);
-    let k = words::field(s, cap, i, RANK);
-    stand(s, cap, i, m, l, r, b, k);
+    let near = words::field(s, cap, i, LEFT);
+    let far = words::field(s, cap, i, RIGHT);
+    let back = words::field(s, cap, i, BACK);
+    let rank = words::field(s, cap, i, RANK);
+    let n = Node {
+        back,
+        near,
+        far,
+        rank,
+    };
+    stand(s, cap, i, m, n);
 }

@@ -18,6 +18,7 @@ use Rattle.wavl.proofs.Lists.{all-of}
 use Rattle.wavl.proofs.Rising.{node-around}
 use Rattle.rules.proofs.Lists.{slots-put, once-put, once-drop, in-put, in-drop}
 use Rattle.tree.specs.inner.Links.{withBack, withNode, relinked}
+use Rattle.tree.specs.declared.Node.{Node as Written}
 use Rattle.tree.proofs.Keeps.{only-back, only-node}
 use Rattle.remove.specs.inner.Lift.{standsIn, nodeReplaced}
 use Rattle.queue_of_store.specs.Ends.{topSlot}
@@ -63,8 +64,12 @@ module _ (s : List ℕ) (cap : ℕ) (few : cap ≤ noSlot) (room : Long s cap) (
   not-b : ¬ (Has m b)
   not-b h = outside (has-far a x r b left m h)
 
+  -- m as it is written
+  abbrev wm : Written
+  wm = record { back = parent p; near = topSlot a; far = topSlot b; rank = r }
+
   abbrev s1 : List ℕ
-  s1 = withNode s cap 0 m (parent p) (topSlot a) (topSlot b) r
+  s1 = withNode s cap 0 m wm
 
   abbrev s2 : List ℕ
   s2 = withBack s1 cap (topSlot a) m
@@ -80,14 +85,14 @@ module _ (s : List ℕ) (cap : ℕ) (few : cap ≤ noSlot) (room : Long s cap) (
   stands-is = rw (W .below .0 .near-is, W .below .0 .far-is, W .below .0 .back-is, W .below .0 .rank-is)
 
   room1 : Long s1 cap
-  room1 = only-room (touch-node s cap 0 m (parent p) (topSlot a) (topSlot b) r (omega arith) lowm) room
+  room1 = only-room (touch-node s cap 0 m wm (omega arith) lowm) room
 
   room2 : Long s2 cap
   room2 = only-room (touch-back s1 cap (topSlot a) m) room1
 
   -- the first write leaves a tree without m; the others one apart from a, or from b
   first : (y : Tree) (back : ℕ) → ¬ (Has m y) → Links s cap back y → Links s1 cap back y
-  first y back n l = carry s s1 cap m (touch-node s cap 0 m (parent p) (topSlot a) (topSlot b) r (omega arith) lowm) y back n l
+  first y back n l = carry s s1 cap m (touch-node s cap 0 m wm (omega arith) lowm) y back n l
 
   apart-from : (y : Tree) (t : List ℕ) (z : Tree) (back : ℕ) → ((j : ℕ) → Has j y → ¬ (Has j z)) → Links t cap back z → Links (withBack t cap (topSlot y) m) cap back z
   apart-from y t z back n l =
@@ -102,7 +107,7 @@ module _ (s : List ℕ) (cap : ℕ) (few : cap ≤ noSlot) (room : Long s cap) (
 
   links : Links s3 cap (parent p) new
   links = (
-    node-past b s2 not-b (node-past a s1 not-a (node-new s cap 0 m (parent p) (topSlot a) (topSlot b) r (omega arith) lowm room)),
+    node-past b s2 not-b (node-past a s1 not-a (node-new s cap 0 m wm (omega arith) lowm room)),
     apart-from b s2 a m (λ j h k. A .both j k h) (new-back s1 cap i m a room1 (A .in-near) (first a i not-a (W .below .1))),
     new-back s2 cap i m b room2 (A .in-far) (apart-from a s1 b i (A .both) (first b i not-b (W .below .2))),
   )
@@ -113,7 +118,7 @@ module _ (s : List ℕ) (cap : ℕ) (few : cap ≤ noSlot) (room : Long s cap) (
 
   only : Only s s3 cap (LinkOf L) NoHead
   only =
-      only-trans (only-node s 0 m (parent p) (topSlot a) (topSlot b) r (omega arith) lowm (λ g y z. record { slot-in = inl refl; field-is = record { from = y; to = z } }))
+      only-trans (only-node s 0 m wm (omega arith) lowm (λ g y z. record { slot-in = inl refl; field-is = record { from = y; to = z } }))
       (only-trans (only-back s1 (topSlot a) m
       (λ l. record { slot-in = inr (has-near a x r b left (topSlot a) (top-has cap a few l)); field-is = record { from = omega arith; to = omega arith } }))
       (only-back s2 (topSlot b) m

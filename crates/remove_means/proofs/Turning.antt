@@ -13,7 +13,9 @@ use Rattle.wavl.specs.Entry.{Entry}
 use Rattle.wavl.specs.Tree.{Side, other, Tree, node, rank, entry, child}
 use Rattle.wavl.specs.Way.{step, Way}
 use Rattle.lower.specs.inner.Rotations.{turnOnce, turnTwice}
-use Rattle.lower.specs.inner.Climb.{lowerOne, loweredBoth, climbPastWith, climbPast, climbAtWith, climbAt, climbTurnWith, climbTurn}
+use Rattle.lower.specs.inner.Climb.{lowerOne, loweredBoth, climbPastWith, turnAt, climbPast, climbAtWith, climbAt, climbTurnWith, climbTurn}
+use Rattle.lower.specs.declared.turns.Turn.{Turn}
+use Rattle.lower.specs.declared.climbing.Site.{Site}
 use Rattle.queue_of_store.specs.Ends.{topSlot, number}
 use Rattle.queue_of_store.specs.Links.{Node, Links}
 use Rattle.queue_of_store.specs.inner.Ways.{parent}
@@ -29,7 +31,11 @@ module _ (s : List ℕ) (cap : ℕ) (few : cap ≤ noSlot) (d : Side) (n0 : Tree
   abbrev turn : List ℕ × Climbed
   turn = climbTurn s cap i1 (number d)
 
-  turn-reads : turn ≡ climbTurnWith s cap i1 (number d) (topSlot n0) (topSlot s0) r1 (rank n0)
+  -- the site of the turn, by the slot i of n1's other child
+  abbrev siteAt : ℕ → Site
+  siteAt i = record { n0 = topSlot n0; n1 = i1; s0 = i; rank0 = rank n0; rank1 = r1 }
+
+  turn-reads : turn ≡ climbTurnWith s cap (number d) (siteAt (topSlot s0))
   unfolding climbTurn
   turn-reads = rw (w .hook, w .way .0 .far-is, w .way .0 .rank-is, rank-of s cap n0 i1 few (w .below))
 
@@ -54,7 +60,7 @@ module _ (s : List ℕ) (cap : ℕ) (few : cap ≤ noSlot) (d : Side) (n0 : Tree
     O : Node s cap (number d) i1 (topSlot a) i0 (rank s0) (topSlot b) × Links s cap i0 a × Links s cap i0 b
     O = opened s cap d i1 a (entry s0) (rank s0) b sibling
 
-    turn-at : turn ≡ climbAtWith s cap (number d) (topSlot n0) i1 i0 (rank n0) r1 (rank s0)
+    turn-at : turn ≡ climbAtWith s cap (number d) (siteAt i0) (rank s0)
     unfolding climbTurnWith climbAt
     turn-at =
         let h′ : rank n0 + 2 < r1 = omega arith in
@@ -65,7 +71,11 @@ module _ (s : List ℕ) (cap : ℕ) (few : cap ≤ noSlot) (d : Side) (n0 : Tree
     turn-lowers g = turn-at ∙ rw (lt-leb budget (rank s0) lows, eq-eqb (rank s0 + 2) r1 g)
 
     module _ (g : ¬ (rank s0 + 2 ≡ r1)) (lowa : rank a < budget) (lowb : rank b < budget) where
-      turn-past : turn ≡ climbPastWith s cap (number d) (topSlot n0) i1 i0 (rank n0) r1 (rank s0) (topSlot a) (topSlot b) (rank a) (rank b) (parent q)
+      -- the rotation that may come
+      abbrev rotation : Turn
+      rotation = turnAt (siteAt i0) (topSlot a) (topSlot b) (rank a) (parent q)
+
+      turn-past : turn ≡ climbPastWith s cap (number d) rotation (rank n0) (rank s0) (rank b)
       unfolding climbAtWith climbPast
       turn-past =
           turn-at ∙ rw (
@@ -78,7 +88,7 @@ module _ (s : List ℕ) (cap : ℕ) (few : cap ≤ noSlot) (d : Side) (n0 : Tree
             rank-of s cap b i0 few (O .2),
           )
 
-      pub turn-rotates : rank b + 1 ≡ rank s0 → turn ≡ (turnOnce s cap (number d) (topSlot n0) i1 (parent q) i0 (topSlot a) (topSlot b) (rank a) r1, Done)
+      pub turn-rotates : rank b + 1 ≡ rank s0 → turn ≡ (turnOnce s cap (number d) rotation, Done)
       unfolding climbPastWith
       turn-rotates k = turn-past ∙ rw (lt-leb budget (rank a) lowa, lt-leb budget (rank b) lowb, eq-eqb (rank b + 1) (rank s0) k)
 
@@ -87,7 +97,7 @@ module _ (s : List ℕ) (cap : ℕ) (few : cap ≤ noSlot) (d : Side) (n0 : Tree
       turn-lowers-both k m = turn-past ∙ rw (lt-leb budget (rank a) lowa, lt-leb budget (rank b) lowb, ne-eqb (rank b + 1) (rank s0) k, eq-eqb (rank a + 2) (rank s0) m)
 
       pub turn-rotates-twice : ¬ (rank b + 1 ≡ rank s0) → ¬ (rank a + 2 ≡ rank s0) → topSlot a < cap
-          → turn ≡ (turnTwice s cap (number d) (topSlot n0) i1 (parent q) i0 (topSlot a) (topSlot b) (rank a) r1, Done)
+          → turn ≡ (turnTwice s cap (number d) rotation, Done)
       unfolding climbPastWith
       turn-rotates-twice k m l =
           turn-past

@@ -11,6 +11,7 @@ use Rattle.arena.proofs.Paths.{either}
 use Rattle.arena.proofs.Only.{only-none, only-trans, only-put, only-putHead}
 use Rattle.tree.specs.inner.Links.{sideOfChild, withBack, withChild, relinked, withNode, spreadWith}
 use Rattle.tree.specs.inner.Kept.{TreeOnly}
+use Rattle.tree.specs.declared.Node.{Node}
 
 pub side-small : (s : List ℕ) (cap p c : ℕ) → sideOfChild s cap p c ≤ 1
 unfolding sideOfChild
@@ -31,14 +32,13 @@ module _ {cap : ℕ} {W : ℕ → ℕ → Type 0} {H : ℕ → Type 0} where
   unfolding relinked
   only-relinked s p old new w h = let m = side-small s cap p old in only-child s p (sideOfChild s cap p old) new m (λ l. w l _ m) h
 
-  pub only-node : (s : List ℕ) (d i back near far rank : ℕ) → d ≤ 1 → i < cap → ((g : ℕ) → LEFT ≤ g → g ≤ BACK → W i g)
-      → Only s (withNode s cap d i back near far rank) cap W H
+  pub only-node : (s : List ℕ) (d i : ℕ) (n : Node) → d ≤ 1 → i < cap → ((g : ℕ) → LEFT ≤ g → g ≤ BACK → W i g) → Only s (withNode s cap d i n) cap W H
   unfolding withNode
-  only-node s d i back near far rank hd hi w =
-      only-trans (only-put s i BACK back hi (omega arith) (w BACK (omega arith) (omega arith)))
-      (only-trans (only-put _ i (LEFT + d) near hi (omega arith) (w (LEFT + d) (omega arith) (omega arith)))
-      (only-trans (only-put _ i (RIGHT - d) far hi (omega arith) (w (RIGHT - d) (omega arith) (omega arith)))
-      (only-put _ i RANK rank hi (omega arith) (w RANK (omega arith) (omega arith)))))
+  only-node s d i n hd hi w =
+      only-trans (only-put s i BACK (n .back) hi (omega arith) (w BACK (omega arith) (omega arith)))
+      (only-trans (only-put _ i (LEFT + d) (n .near) hi (omega arith) (w (LEFT + d) (omega arith) (omega arith)))
+      (only-trans (only-put _ i (RIGHT - d) (n .far) hi (omega arith) (w (RIGHT - d) (omega arith) (omega arith)))
+      (only-put _ i RANK (n .rank) hi (omega arith) (w RANK (omega arith) (omega arith)))))
 
 -- the steps with nothing but the tree allowed
 module _ (s : List ℕ) (cap : ℕ) where
@@ -48,10 +48,10 @@ module _ (s : List ℕ) (cap : ℕ) where
   pub relinked-only : (p old new : ℕ) → TreeOnly s (relinked s cap p old new) cap
   relinked-only p old new = only-relinked s p old new (λ l d m. omega arith) (λ l. omega arith)
 
-  pub node-only : (d i back near far rank : ℕ) → i < cap → d ≤ 1 → TreeOnly s (withNode s cap d i back near far rank) cap
-  node-only d i back near far rank hi hd = only-node s d i back near far rank hd hi (λ g lo up. (lo, up))
+  pub node-only : (d i : ℕ) (n : Node) → i < cap → d ≤ 1 → TreeOnly s (withNode s cap d i n) cap
+  node-only d i n hi hd = only-node s d i n hd hi (λ g lo up. (lo, up))
 
-pub spread-only : (s : List ℕ) (cap d x y z u c e v rank : ℕ) → y < cap → z < cap → d ≤ 1 → TreeOnly s (spreadWith s cap d x y z u c e v rank) cap
+pub spread-only : (s : List ℕ) (cap d y : ℕ) (m : Node) (z : ℕ) (n : Node) → y < cap → z < cap → d ≤ 1 → TreeOnly s (spreadWith s cap d y m z n) cap
 unfolding spreadWith
-spread-only s cap d x y z u c e v rank hy hz hd =
-    only-trans (back-only _ _ _ _) (only-trans (back-only _ _ _ _) (only-trans (node-only _ _ _ _ _ _ _ _ hy hd) (node-only _ _ _ _ _ _ _ _ hz hd)))
+spread-only s cap d y m z n hy hz hd =
+    only-trans (back-only _ _ _ _) (only-trans (back-only _ _ _ _) (only-trans (node-only _ _ _ _ _ hy hd) (node-only _ _ _ _ _ hz hd)))

@@ -20,6 +20,14 @@ pub enum Climbed {
     NotSound,
 }
 
+// A node as it is to be written: its parent or no slot, its child on a side that is said beside it, its other child, its rank.
+pub struct Node {
+    pub back: u64,
+    pub near: u64,
+    pub far: u64,
+    pub rank: u64,
+}
+
 // The rank of a child that may be missing: "A missing child counts as rank 0."
 pub fn rank_of(s: &[u64], cap: u64, p: u64) -> u64
     requires { ⌜ Room (now s) cap ⌝ }
@@ -83,42 +91,30 @@ pub fn relink(s: &mut [u64], cap: u64, p: u64, old: u64, new: u64)
     }
 }
 
-// The links and the rank of the slot i: `near` is its child on the side d, `far` the other one.
-pub fn put_node(s: &mut [u64], cap: u64, d: u64, i: u64, back: u64, near: u64, far: u64, rank: u64)
+// The slot i becomes the node n, with its near child on the side d.
+pub fn put_node(s: &mut [u64], cap: u64, d: u64, i: u64, n: Node)
     requires { ⌜ Room (now s) cap ⌝ }
     requires { ⌜ i < cap ⌝ }
     requires { ⌜ d ≤ 1 ⌝ }
-    ensures { λ _. ⌜ now (s .exit) ≡ withNode (now (s .entry)) cap d i back near far rank ⌝ }
+    ensures { λ _. ⌜ now (s .exit) ≡ withNode (now (s .entry)) cap d i n ⌝ }
 {
-    words::put(s, cap, i, BACK, back);
-    words::put(s, cap, i, LEFT + d, near);
-    words::put(s, cap, i, RIGHT - d, far);
-    words::put(s, cap, i, RANK, rank);
+    words::put(s, cap, i, BACK, n.back);
+    words::put(s, cap, i, LEFT + d, n.near);
+    words::put(s, cap, i, RIGHT - d, n.far);
+    words::put(s, cap, i, RANK, n.rank);
 }
 
-// y and z come under x, y on its side d, and part the children c and e of x between them: u and c stand below y, e and v below z.
-// Both get the rank. What a double rotation writes before x itself rises, after an insertion and after a removal.
-pub fn spread(
-    s: &mut [u64],
-    cap: u64,
-    d: u64,
-    x: u64,
-    y: u64,
-    z: u64,
-    u: u64,
-    c: u64,
-    e: u64,
-    v: u64,
-    rank: u64,
-)
+// y becomes m and z becomes n: both come under one node and part its children between them, which are the far child of m and the
+// near one of n. What a double rotation writes before that node itself rises, after an insertion and after a removal.
+pub fn spread(s: &mut [u64], cap: u64, d: u64, y: u64, m: Node, z: u64, n: Node)
     requires { ⌜ Room (now s) cap ⌝ }
     requires { ⌜ d ≤ 1 ⌝ }
     requires { ⌜ y < cap ⌝ }
     requires { ⌜ z < cap ⌝ }
-    ensures { λ _. ⌜ now (s .exit) ≡ spreadWith (now (s .entry)) cap d x y z u c e v rank ⌝ }
+    ensures { λ _. ⌜ now (s .exit) ≡ spreadWith (now (s .entry)) cap d y m z n ⌝ }
 {
-    put_back(s, cap, c, y);
-    put_back(s, cap, e, z);
-    put_node(s, cap, d, y, x, u, c, rank);
-    put_node(s, cap, d, z, x, e, v, rank);
+    put_back(s, cap, m.far, y);
+    put_back(s, cap, n.near, z);
+    put_node(s, cap, d, y, m);
+    put_node(s, cap, d, z, n);
 }

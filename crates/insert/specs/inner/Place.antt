@@ -16,6 +16,7 @@ use Rattle.arena.specs.Words.{field, put, putHead, GENERATION, VALUE, ROOT}
 use Rattle.arena.specs.declared.slots.Taken.{Taken}
 use Rattle.arena.specs.declared.slots.Taken as T
 use Rattle.tree.specs.inner.Links.{withNode, withChild}
+use Rattle.tree.specs.declared.Node.{Node}
 use Rattle.chain.specs.inner.Links.{linkAlone, linkBeside}
 use Rattle.raise.specs.inner.Ranks.{rebalanced}
 use Rattle.insert.specs.inner.Kinds.{preparedNormal, preparedEmpty, preparedManual}
@@ -26,9 +27,13 @@ use Rattle.handle.specs.declared.Inserted.the-variants.{New, Replacing, Refused
 use Rattle.handle.specs.declared.Ahead.{Ahead}
 use Rattle.handle.specs.declared.Ahead as A
 
+-- a new node below p, or below no slot: it has no child, and rank 1
+abbrev pub childless : ℕ → Node
+childless p = record { back = p; near = noSlot; far = noSlot; rank = 1 }
+
 -- the slot i as the whole queue
 unfoldable pub standAlone : List ℕ → ℕ → ℕ → ℤ → ℕ → List ℕ
-standAlone s cap i key value = putHead (linkAlone (withNode (entryPut s cap i key value) cap 0 i noSlot noSlot noSlot 1) cap i) ROOT i
+standAlone s cap i key value = putHead (linkAlone (withNode (entryPut s cap i key value) cap 0 i (childless noSlot)) cap i) ROOT i
 
 -- by the slot that was taken
 abbrev pub aloneAs : ℕ → ℤ → ℕ → List ℕ → Taken → List ℕ × Inserted
@@ -41,7 +46,7 @@ placedAlone s cap key value = let x = takeSlot s cap in aloneAs cap key value (x
 
 -- the slot i as the child of p on the side d and its neighbour there
 unfoldable pub hung : List ℕ → ℕ → ℕ → ℕ → ℕ → ℤ → ℕ → List ℕ
-hung s cap i p d key value = withChild (linkBeside (withNode (entryPut s cap i key value) cap 0 i p noSlot noSlot 1) cap i p d) cap p d i
+hung s cap i p d key value = withChild (linkBeside (withNode (entryPut s cap i key value) cap 0 i (childless p)) cap i p d) cap p d i
 
 unfoldable pub hungBelow : List ℕ → ℕ → ℕ → ℕ → ℕ → ℤ → ℕ → List ℕ × Bool
 hungBelow s cap i p d key value = rebalanced (hung s cap i p d key value) cap i p

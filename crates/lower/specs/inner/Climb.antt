@@ -14,6 +14,8 @@ use Rattle.tree.specs.inner.Links.{rankOf, sideOfChild}
 use Rattle.tree.specs.declared.Climbed.{Climbed}
 use Rattle.tree.specs.declared.Climbed.the-variants.{Done, Up, NotSound}
 use Rattle.lower.specs.inner.Rotations.{turnOnce, turnTwice}
+use Rattle.lower.specs.declared.turns.Turn.{Turn}
+use Rattle.lower.specs.declared.climbing.Site.{Site}
 
 -- where the climb goes on above p1, by the back link p2 of p1
 unfoldable pub goUpTo : List ℕ → ℕ → ℕ → ℕ → Climbed
@@ -32,42 +34,53 @@ lowerOne s cap p1 rank = upward (put s cap p1 RANK rank) cap p1
 unfoldable pub loweredBoth : List ℕ → ℕ → ℕ → ℕ → ℕ → List ℕ × Climbed
 loweredBoth s cap p1 s0 rank0 = lowerOne (put s cap s0 RANK (rank0 + 1)) cap p1 (rank0 + 2)
 
--- by the children a and b of the sibling, their ranks, and n2 above n1
-unfoldable pub climbPastWith : List ℕ → ℕ → ℕ → ℕ → ℕ → ℕ → ℕ → ℕ → ℕ → ℕ → ℕ → ℕ → ℕ → ℕ → List ℕ × Climbed
-climbPastWith s cap d p0 p1 s0 rank0 rank1 rs a b ra rb p2 =
-    ifte (leb budget ra) (s, NotSound)
+-- by the rotation that may come, which has the children of the sibling and n2 above n1, and by the ranks of n0, of s0 and of b
+unfoldable pub climbPastWith : List ℕ → ℕ → ℕ → Turn → ℕ → ℕ → ℕ → List ℕ × Climbed
+climbPastWith s cap d t rank0 rs rb =
+    ifte (leb budget (t .ra)) (s, NotSound)
     (ifte (leb budget rb) (s, NotSound)
-    (ifte (eqb (rb + 1) rs) (turnOnce s cap d p0 p1 p2 s0 a b ra rank1, Done)
-    (ifte (eqb (ra + 2) rs) (loweredBoth s cap p1 s0 rank0)
-    (ifte (leb cap a) (s, NotSound)
-    (turnTwice s cap d p0 p1 p2 s0 a b ra rank1, Done)))))
+    (ifte (eqb (rb + 1) rs) (turnOnce s cap d t, Done)
+    (ifte (eqb (t .ra + 2) rs) (loweredBoth s cap (t .n1) (t .s0) rank0)
+    (ifte (leb cap (t .a)) (s, NotSound)
+    (turnTwice s cap d t, Done)))))
 
-unfoldable pub climbPast : List ℕ → ℕ → ℕ → ℕ → ℕ → ℕ → ℕ → ℕ → ℕ → List ℕ × Climbed
-climbPast s cap d p0 p1 s0 rank0 rank1 rs =
-    climbPastWith s cap d p0 p1 s0 rank0 rank1 rs (field s cap s0 (LEFT + d)) (field s cap s0 (RIGHT - d))
-    (rankOf s cap (field s cap s0 (LEFT + d))) (rankOf s cap (field s cap s0 (RIGHT - d))) (field s cap p1 BACK)
+-- the rotation at a site, by the children a and b of the sibling, the rank of a, and n2 above n1
+abbrev pub turnAt : Site → ℕ → ℕ → ℕ → ℕ → Turn
+turnAt p a b ra n2 = record { n0 = p .n0; n1 = p .n1; n2 = n2; s0 = p .s0; a = a; b = b; ra = ra; rank1 = p .rank1 }
+
+unfoldable pub climbPast : List ℕ → ℕ → ℕ → Site → ℕ → List ℕ × Climbed
+climbPast s cap d p rs =
+    climbPastWith s cap d
+    (turnAt p (field s cap (p .s0) (LEFT + d)) (field s cap (p .s0) (RIGHT - d)) (rankOf s cap (field s cap (p .s0) (LEFT + d))) (field s cap (p .n1) BACK))
+    (p .rank0) rs (rankOf s cap (field s cap (p .s0) (RIGHT - d)))
 
 -- by the sibling's rank
-unfoldable pub climbAtWith : List ℕ → ℕ → ℕ → ℕ → ℕ → ℕ → ℕ → ℕ → ℕ → List ℕ × Climbed
-climbAtWith s cap d p0 p1 s0 rank0 rank1 rs =
+unfoldable pub climbAtWith : List ℕ → ℕ → ℕ → Site → ℕ → List ℕ × Climbed
+climbAtWith s cap d p rs =
     ifte (leb budget rs) (s, NotSound)
-    (ifte (eqb (rs + 2) rank1) (lowerOne s cap p1 (rs + 1))
-    (climbPast s cap d p0 p1 s0 rank0 rank1 rs))
+    (ifte (eqb (rs + 2) (p .rank1)) (lowerOne s cap (p .n1) (rs + 1))
+    (climbPast s cap d p rs))
 
-unfoldable pub climbAt : List ℕ → ℕ → ℕ → ℕ → ℕ → ℕ → ℕ → ℕ → List ℕ × Climbed
-climbAt s cap d p0 p1 s0 rank0 rank1 = climbAtWith s cap d p0 p1 s0 rank0 rank1 (field s cap s0 RANK)
+unfoldable pub climbAt : List ℕ → ℕ → ℕ → Site → List ℕ × Climbed
+climbAt s cap d p = climbAtWith s cap d p (field s cap (p .s0) RANK)
 
 -- by the children of n1 and the ranks of n1 and n0
-unfoldable pub climbTurnWith : List ℕ → ℕ → ℕ → ℕ → ℕ → ℕ → ℕ → ℕ → List ℕ × Climbed
-climbTurnWith s cap p1 d p0 s0 rank1 rank0 =
-    ifte (leb budget rank0) (s, NotSound)
-    (ifte (leb rank1 (rank0 + 2)) (s, Done)
-    (ifte (leb cap s0) (s, NotSound)
-    (climbAt s cap d p0 p1 s0 rank0 rank1)))
+unfoldable pub climbTurnWith : List ℕ → ℕ → ℕ → Site → List ℕ × Climbed
+climbTurnWith s cap d p =
+    ifte (leb budget (p .rank0)) (s, NotSound)
+    (ifte (leb (p .rank1) (p .rank0 + 2)) (s, Done)
+    (ifte (leb cap (p .s0)) (s, NotSound)
+    (climbAt s cap d p)))
 
 unfoldable pub climbTurn : List ℕ → ℕ → ℕ → ℕ → List ℕ × Climbed
 climbTurn s cap p1 d =
-    climbTurnWith s cap p1 d (field s cap p1 (LEFT + d)) (field s cap p1 (RIGHT - d)) (field s cap p1 RANK) (rankOf s cap (field s cap p1 (LEFT + d)))
+    climbTurnWith s cap d (record {
+      n0 = field s cap p1 (LEFT + d);
+      n1 = p1;
+      s0 = field s cap p1 (RIGHT - d);
+      rank0 = rankOf s cap (field s cap p1 (LEFT + d));
+      rank1 = field s cap p1 RANK;
+    })
 
 -- the climb at n1 with so many turns left
 unfoldable pub lowerFrom : ℕ → List ℕ → ℕ → ℕ → ℕ → List ℕ × Bool

@@ -13,6 +13,7 @@ use Rattle.tree.specs.inner.Links.{rankOf, sideOfChild}
 use Rattle.tree.specs.declared.Climbed.{Climbed}
 use Rattle.tree.specs.declared.Climbed.the-variants.{Done, Up, NotSound}
 use Rattle.raise.specs.inner.Restructures.{turnedSame, turnedAcross}
+use Rattle.raise.specs.declared.turns.Turn.{Turn}
 
 -- where the climb goes on above n2: p3 and its side, if it is a slot
 unfoldable pub above : List ℕ → ℕ → ℕ → ℕ → List ℕ × Climbed
@@ -22,20 +23,20 @@ above s cap p2 p3 = ifte (ltb p3 cap) (s, Up p3 (sideOfChild s cap p3 p2)) (s, D
 unfoldable pub raisedUp : List ℕ → ℕ → ℕ → ℕ → ℕ → List ℕ × Climbed
 raisedUp s cap p2 p3 r1 = above (put s cap p2 RANK (r1 + 1)) cap p2 p3
 
--- one turn by what it reads: the ranks of n1 and n2, the node above n2, its other child s1 and that one's rank
-unfoldable pub fixWith : List ℕ → ℕ → ℕ → ℕ → ℕ → ℕ → ℕ → ℕ → ℕ → ℕ → ℕ → ℕ → List ℕ × Climbed
-fixWith s cap p0 p1 p2 d01 d12 r1 r2 p3 s1 rs1 =
+-- one turn by what it reads: the slots of a restructure, the ranks of n1 and n2, and the rank of n2's other child s1
+unfoldable pub fixWith : List ℕ → ℕ → ℕ → ℕ → Turn → ℕ → ℕ → ℕ → List ℕ × Climbed
+fixWith s cap d01 d12 t r1 r2 rs1 =
     ifte (ltb r1 r2) (s, Done)
     (ifte (leb budget r1) (s, NotSound)
     (ifte (leb budget rs1) (s, NotSound)
-    (ifte (eqb (rs1 + 1) r2) (raisedUp s cap p2 p3 r1)
-    (ifte (eqb d01 d12) (turnedSame s cap d01 p0 p1 p2 p3 s1, Done)
-    (turnedAcross s cap d12 p0 p1 p2 p3 s1, Done)))))
+    (ifte (eqb (rs1 + 1) r2) (raisedUp s cap (t .n2) (t .n3) r1)
+    (ifte (eqb d01 d12) (turnedSame s cap d01 t, Done)
+    (turnedAcross s cap d12 t, Done)))))
 
 unfoldable pub fixTurn : List ℕ → ℕ → ℕ → ℕ → ℕ → ℕ → ℕ → List ℕ × Climbed
 fixTurn s cap p0 p1 p2 d01 d12 =
-    fixWith s cap p0 p1 p2 d01 d12 (field s cap p1 RANK) (field s cap p2 RANK) (field s cap p2 BACK) (field s cap p2 (RIGHT - d12))
-    (rankOf s cap (field s cap p2 (RIGHT - d12)))
+    fixWith s cap d01 d12 (record { n0 = p0; n1 = p1; n2 = p2; n3 = field s cap p2 BACK; s1 = field s cap p2 (RIGHT - d12) })
+    (field s cap p1 RANK) (field s cap p2 RANK) (rankOf s cap (field s cap p2 (RIGHT - d12)))
 
 -- `fuel` turns may still be taken
 unfoldable pub raiseFrom : ℕ → List ℕ → ℕ → ℕ → ℕ → ℕ → ℕ → ℕ → List ℕ × Bool

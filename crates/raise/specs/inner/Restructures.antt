@@ -5,21 +5,28 @@ use Prim.Native.Nat.{ℕ, _+_, _-_}
 use mathlib.Core.List.{List}
 use Rattle.arena.specs.Words.{field, put, LEFT, RIGHT, RANK, BACK}
 use Rattle.tree.specs.inner.Links.{withBack, withNode, relinked, spreadWith}
+use Rattle.raise.specs.declared.turns.Turn.{Turn}
 
--- n1 in the place of n2 below p3, n2 on its other side with s0 on the side d and s1 on the other one
-unfoldable pub liftedOne : List ℕ → ℕ → ℕ → ℕ → ℕ → ℕ → ℕ → ℕ → ℕ → List ℕ
-liftedOne s cap d p1 p2 p3 s0 s1 rank0 =
-    relinked (withNode (put (put (withBack s cap s0 p2) cap p1 (RIGHT - d) p2) cap p1 BACK p3) cap d p2 p1 s0 s1 rank0) cap p3 p2 p1
+-- n1 in the place of n2 below n3, n2 on its other side with s0 on the side d and s1 on the other one
+unfoldable pub liftedOne : List ℕ → ℕ → ℕ → Turn → ℕ → ℕ → List ℕ
+liftedOne s cap d t s0 rank0 =
+    relinked (withNode (put (put (withBack s cap s0 (t .n2)) cap (t .n1) (RIGHT - d) (t .n2)) cap (t .n1) BACK (t .n3))
+    cap d (t .n2) (record { back = t .n1; near = s0; far = t .s1; rank = rank0 }))
+    cap (t .n3) (t .n2) (t .n1)
 
-unfoldable pub turnedSame : List ℕ → ℕ → ℕ → ℕ → ℕ → ℕ → ℕ → ℕ → List ℕ
-turnedSame s cap d p0 p1 p2 p3 s1 = liftedOne s cap d p1 p2 p3 (field s cap p1 (RIGHT - d)) s1 (field s cap p0 RANK)
+unfoldable pub turnedSame : List ℕ → ℕ → ℕ → Turn → List ℕ
+turnedSame s cap d t = liftedOne s cap d t (field s cap (t .n1) (RIGHT - d)) (field s cap (t .n0) RANK)
 
 -- n1 and n2 as the children of n0, which hands its own children and its rank to them
-unfoldable pub spreadBelow : List ℕ → ℕ → ℕ → ℕ → ℕ → ℕ → ℕ → List ℕ
-spreadBelow s cap d p0 p1 p2 s1 =
-    spreadWith s cap d p0 p1 p2 (field s cap p1 (LEFT + d)) (field s cap p0 (LEFT + d)) (field s cap p0 (RIGHT - d)) s1 (field s cap p0 RANK)
+unfoldable pub spreadBelow : List ℕ → ℕ → ℕ → Turn → List ℕ
+spreadBelow s cap d t =
+    spreadWith s cap d (t .n1)
+    (record { back = t .n0; near = field s cap (t .n1) (LEFT + d); far = field s cap (t .n0) (LEFT + d); rank = field s cap (t .n0) RANK })
+    (t .n2)
+    (record { back = t .n0; near = field s cap (t .n0) (RIGHT - d); far = t .s1; rank = field s cap (t .n0) RANK })
 
--- n0 in the place of n2 below p3, with n1 on the side d and n2 on the other one
-unfoldable pub turnedAcross : List ℕ → ℕ → ℕ → ℕ → ℕ → ℕ → ℕ → ℕ → List ℕ
-turnedAcross s cap d p0 p1 p2 p3 s1 =
-    relinked (withNode (spreadBelow s cap d p0 p1 p2 s1) cap d p0 p3 p1 p2 (field s cap p1 RANK)) cap p3 p2 p0
+-- n0 in the place of n2 below n3, with n1 on the side d and n2 on the other one
+unfoldable pub turnedAcross : List ℕ → ℕ → ℕ → Turn → List ℕ
+turnedAcross s cap d t =
+    relinked (withNode (spreadBelow s cap d t) cap d (t .n0) (record { back = t .n3; near = t .n1; far = t .n2; rank = field s cap (t .n1) RANK }))
+    cap (t .n3) (t .n2) (t .n0)

@@ -8,6 +8,7 @@ use Rattle.handle.specs.Numbers.{noSlot}
 use Rattle.arena.specs.Branch.{ifte}
 use Rattle.arena.specs.Words.{field, LEFT, RIGHT, RANK, BACK}
 use Rattle.tree.specs.inner.Links.{sideOfChild, withBack, withChild, withNode, relinked}
+use Rattle.tree.specs.declared.Node.{Node}
 use Rattle.remove.specs.declared.lifting.Lifted.{Lifted}
 
 -- the child of m, which has at most one
@@ -29,9 +30,10 @@ liftWith s cap c q e = (hungUp s cap q e c, record { under = q; side = e })
 unfoldable pub liftOut : List ℕ → ℕ → ℕ → List ℕ × Lifted
 liftOut s cap m = liftWith s cap (onlyChild s cap m) (field s cap m BACK) (sideUnder s cap (field s cap m BACK) m)
 
--- m under b, over l and r, with the rank k, where i stood
-unfoldable pub standsIn : List ℕ → ℕ → ℕ → ℕ → ℕ → ℕ → ℕ → ℕ → List ℕ
-standsIn s cap i m l r b k = relinked (withBack (withBack (withNode s cap 0 m b l r k) cap l m) cap r m) cap b i m
+-- m as the node n, where i stood
+unfoldable pub standsIn : List ℕ → ℕ → ℕ → ℕ → Node → List ℕ
+standsIn s cap i m n = relinked (withBack (withBack (withNode s cap 0 m n) cap (n .near) m) cap (n .far) m) cap (n .back) i m
 
 unfoldable pub nodeReplaced : List ℕ → ℕ → ℕ → ℕ → List ℕ
-nodeReplaced s cap i m = standsIn s cap i m (field s cap i LEFT) (field s cap i RIGHT) (field s cap i BACK) (field s cap i RANK)
+nodeReplaced s cap i m =
+    standsIn s cap i m (record { back = field s cap i BACK; near = field s cap i LEFT; far = field s cap i RIGHT; rank = field s cap i RANK })

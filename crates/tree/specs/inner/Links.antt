@@ -5,6 +5,7 @@ use lib.Dec.{ltb, leb, eqb}
 use Rattle.handle.specs.Numbers.{noSlot}
 use Rattle.arena.specs.Branch.{ifte}
 use Rattle.arena.specs.Words.{field, put, putHead, LEFT, RIGHT, RANK, BACK, ROOT}
+use Rattle.tree.specs.declared.Node.{Node}
 
 -- "A missing child counts as rank 0."
 unfoldable pub rankOf : List ℕ → ℕ → ℕ → ℕ
@@ -27,11 +28,11 @@ unfoldable pub relinked : List ℕ → ℕ → ℕ → ℕ → ℕ → List ℕ
 relinked s cap p old new = withChild s cap p (sideOfChild s cap p old) new
 
 -- the links and the rank of the slot i: `near` on the side d
-unfoldable pub withNode : List ℕ → ℕ → ℕ → ℕ → ℕ → ℕ → ℕ → ℕ → List ℕ
-withNode s cap d i back near far rank =
-    put (put (put (put s cap i BACK back) cap i (LEFT + d) near) cap i (RIGHT - d) far) cap i RANK rank
+unfoldable pub withNode : List ℕ → ℕ → ℕ → ℕ → Node → List ℕ
+withNode s cap d i n =
+    put (put (put (put s cap i BACK (n .back)) cap i (LEFT + d) (n .near)) cap i (RIGHT - d) (n .far)) cap i RANK (n .rank)
 
--- y and z under x, y on its side d, with the given rank: u and c below y, e and v below z
-unfoldable pub spreadWith : List ℕ → ℕ → ℕ → ℕ → ℕ → ℕ → ℕ → ℕ → ℕ → ℕ → ℕ → List ℕ
-spreadWith s cap d x y z u c e v rank =
-    withNode (withNode (withBack (withBack s cap c y) cap e z) cap d y x u c rank) cap d z x e v rank
+-- y and z under one node, y on its side d: its children stand below y on the other side, and below z on the side d
+unfoldable pub spreadWith : List ℕ → ℕ → ℕ → ℕ → Node → ℕ → Node → List ℕ
+spreadWith s cap d y m z n =
+    withNode (withNode (withBack (withBack s cap (m .far) y) cap (n .near) z) cap d y m) cap d z n

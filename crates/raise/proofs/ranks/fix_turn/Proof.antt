@@ -34,7 +34,7 @@ returns c =
     let c₃ = c₄ .before .before in
     let c₂ = c₃ .before .before in
     let c₁ = c₂ .before .before in
-    (fix-reads _ _ _ _ _ _ _ _ _ _ _ _ _ (c₁ .field .ensures) (c₂ .field2 .ensures) (c₃ .field3 .ensures) (c₄ .field4 .ensures) (r .rank-of .ensures) (fix-low _ _ _ _ _ _ _ _ _ _ _ _ (c .if1 .taken)), tt)
+    (fix-reads _ _ _ _ _ _ _ _ _ _ _ _ _ (c₁ .field .ensures) (c₂ .field2 .ensures) (c₃ .field3 .ensures) (c₄ .field4 .ensures) (r .rank-of .ensures) (fix-low _ _ _ _ _ _ _ _ (c .if1 .taken)), tt)
 
 same-length-2 : tie.Need-same-length-2
 same-length-2 c = search needs
