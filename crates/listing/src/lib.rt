@@ -1,5 +1,7 @@
 // Document 01's listing: `live L free F retired R`, then a line for each entry in order. The cursor walks the chain; ranks are
 // the store's words. It is written into a buffer, or at once on standard output.
+pub mod walking;
+
 ghost use Prim.Native.Nat.{_<_};
 ghost use Rattle.arena.specs.Words.{Room};
 use arena::header;
@@ -13,9 +15,9 @@ use handle::Refusal;
 use output::out;
 use output::out::ROOM;
 use output::say;
-use queue::cursor::Cursor;
-use queue::cursor::Moved;
 use queue::looking;
+use walking::Walk;
+use walking::Walked;
 
 // Lists at once on standard output.
 pub fn print(s: &[u64]) {
@@ -44,13 +46,13 @@ pub fn list(s: &[u64], o: &mut [u8; ROOM], at: &mut usize) -> bool {
 // How many entries the chain has, counted up to `most`.
 pub fn chain_length(s: &[u64], most: u64) -> u64 {
     let mut n: u64 = 0;
-    let mut m = Cursor::first(s);
-    while n < most {
-        let Moved::At(c) = m else {
+    let mut w = Walk::first(s, most);
+    loop {
+        let Walked::At(_, on) = w.next(s) else {
             break;
         };
-        m = c.forward(s);
         n += 1;
+        w = on;
     }
     n
 }
@@ -84,15 +86,13 @@ fn rest(all: u64, one: u64, other: u64) -> u64 {
 fn list_entries(s: &[u64], cap: u64, o: &mut [u8; ROOM], at: &mut usize)
     requires { ⌜ Room (now s) cap ⌝ }
 {
-    let mut left = cap;
-    let mut m = Cursor::first(s);
-    while 0 < left {
-        let Moved::At(c) = m else {
+    let mut w = Walk::first(s, cap);
+    loop {
+        let Walked::At(h, on) = w.next(s) else {
             break;
         };
-        list_entry(s, cap, c.handle, o, at);
-        m = c.forward(s);
-        left -= 1;
+        list_entry(s, cap, h, o, at);
+        w = on;
     }
 }
 

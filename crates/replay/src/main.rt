@@ -1,66 +1,120 @@
 // Reads a script on standard input and writes the queue's answers on standard output, a line for a line.
 // The script language is that of paired runs: the same script gives the same bytes from the Rust side.
-mod lines;
+mod dumping;
 
+ghost use lib.ListN.{length};
+ghost use Rattle.input.specs.inner.Lines.{Fits};
+use answers::answer;
+use answers::answer::Answer;
 use arena::words::STORE;
+use handle::Refusal;
+use input::lines;
+use input::lines::Line;
+use input::lines::PART;
+use input::lines::Reader;
 use libc::STDERR_FILENO;
-use libc::STDIN_FILENO;
-use lines::LONGEST;
 use output::out;
 use output::out::ROOM;
+use script::command;
+use script::command::Command;
 use script::table::TABLE;
 
-// Reads one part of the input and serves it. Answers whether there may be more.
-fn read_part(
-    line: &mut [u8; LONGEST],
-    held: &mut usize,
-    s: &mut [u64; STORE],
-    t: &mut [u64; TABLE],
-    o: &mut [u8; ROOM],
-    at: &mut usize,
-) -> bool {
-    let mut part = io::large_buffer();
-    let got = libc::read(STDIN_FILENO, &mut part);
-    if got < 0 {
-        io::write_all(
-            STDERR_FILENO,
-            b"replay: could not read the script to its end\n",
-        );
-    }
-    let n = io::count(got, &part);
-    lines::feed(&part[..n], line, held, s, t, o, at);
-    0 < n
-}
+// The longest line that is read.
+const LONGEST: usize = 128;
 
-// Reads to the end of the input. Each part has a byte at least, so the count of parts can't run out.
-fn read_all(
-    line: &mut [u8; LONGEST],
-    held: &mut usize,
+// Carries a command out and writes its answer.
+fn respond(
+    c: Command,
     s: &mut [u64; STORE],
     t: &mut [u64; TABLE],
     o: &mut [u8; ROOM],
     at: &mut usize,
 ) {
-    let mut parts: u64 = 18446744073709551615;
-    while 0 < parts {
-        if !read_part(line, held, s, t, o, at) {
+    match c {
+        Command::List => {
+            let is_passed = listing::list(s, o, at);
+            refuse_unless(is_passed, o, at);
+        }
+        Command::Dump => {
+            let is_passed = dumping::dump(s, t, o, at);
+            refuse_unless(is_passed, o, at);
+        }
+        _ => {
+            let a = serve::carry_out(c, s, t);
+            answer::write(o, at, a);
+        }
+    }
+}
+
+// Where the header fails, nothing is written but the refusal.
+fn refuse_unless(is_passed: bool, o: &mut [u8; ROOM], at: &mut usize) {
+    if !is_passed {
+        answer::write(o, at, Answer::Refused(Refusal::NotSound));
+    }
+}
+
+// Serves a line that was read into `line`, and says whether more may follow.
+fn serve_line(
+    got: Line,
+    line: &[u8],
+    s: &mut [u64; STORE],
+    t: &mut [u64; TABLE],
+    o: &mut [u8; ROOM],
+    at: &mut usize,
+) -> bool
+    requires { ⌜ Fits got (length (now line)) ⌝ }
+{
+    match got {
+        Line::Whole(n) => {
+            let c = command::read(&line[0..n]);
+            respond(c, s, t, o, at);
+        }
+        Line::TooLong => respond(Command::Bad, s, t, o, at),
+        Line::Failed => tell_failed(),
+        Line::End => {
+            return false;
+        }
+    }
+    true
+}
+
+fn tell_failed() {
+    io::write_all(
+        STDERR_FILENO,
+        b"replay: could not read the script to its end\n",
+    );
+}
+
+// To the end of the input. It has fewer lines than the count of turns.
+fn serve_all(
+    part: &mut [u8; PART],
+    line: &mut [u8],
+    s: &mut [u64; STORE],
+    t: &mut [u64; TABLE],
+    o: &mut [u8; ROOM],
+    at: &mut usize,
+) {
+    let mut reader = Reader::new();
+    let mut turns = u64::MAX;
+    while 0 < turns {
+        let read = lines::next(part, reader, line);
+        let got = read.line;
+        if !serve_line(got, line, s, t, o, at) {
             break;
         }
-        parts -= 1;
+        reader = read.reader;
+        turns -= 1;
     }
 }
 
 fn main() {
+    let mut part = io::large_buffer();
     let mut line = [0u8; LONGEST];
-    let mut held: usize = 0;
     // Zeros are no laid out store: until the first `new` every call finds that its header fails.
     let mut s = [0u64; STORE];
     let mut t = [0u64; TABLE];
     let mut o = io::large_buffer();
     let mut at: usize = 0;
-    read_all(&mut line, &mut held, &mut s, &mut t, &mut o, &mut at);
-    // What stands behind the last newline is a line too.
-    let c = lines::whole(&line, held);
-    serve::respond(c, &mut s, &mut t, &mut o, &mut at);
+    serve_all(&mut part, &mut line, &mut s, &mut t, &mut o, &mut at);
     out::flush(&mut o, &mut at);
 }

@@ -1,77 +1,41 @@
--- What a field that was found tells, and what is made of its bytes.
-use Prim.Native.Nat.{ℕ, _-_, _<_, _≤_}
+-- From a number to a side, and what is made of a field's bytes.
+use Prim.Native.Nat.{ℕ}
 use mathlib.Core.Path.{_≡_}
 use mathlib.Core.List.{List}
-use native.Mathlib.Omega.{arith}
-use lib.ListN.{length}
+use Rattle.arena.specs.Keys.{stored}
 use Rattle.handle.specs.declared.Key.{Key}
 use Rattle.handle.specs.declared.Side.{Side}
-use Rattle.script.specs.inner.Numbers.{unsignedOf, signedOf, sideOf}
-use Rattle.script.specs.inner.Fields.{nextField, InLine, part, numberField, keyField, sideField}
-use Rattle.script.specs.declared.fields.Field.{Field}
-use Rattle.script.specs.declared.fields.Field.the-variants.{At, Nothing}
-use Rattle.script.specs.declared.fields.Number.{Number}
-use Rattle.script.specs.declared.fields.Number as N
-use Rattle.script.specs.declared.fields.SignedNumber.{SignedNumber}
-use Rattle.script.specs.declared.fields.SignedNumber as S
-use Rattle.script.specs.declared.fields.SideNumber.{SideNumber}
-use Rattle.script.specs.declared.fields.SideNumber as D
-use Rattle.script.specs.declared.fields.NumberField as NF
-use Rattle.script.specs.declared.fields.KeyField as KF
-use Rattle.script.specs.declared.fields.SideField as SF
+use Rattle.input.specs.declared.fields.Field.{Field}
+use Rattle.input.specs.declared.fields.Field.the-variants.{At, Nothing}
+use Rattle.input.specs.declared.numbers.SignedNumber.{SignedNumber}
+use Rattle.input.specs.declared.numbers.SignedNumber as S
+use Rattle.input.specs.inner.Fields.{nextField, part}
+use Rattle.input.specs.inner.Numbers.{signedOf}
+use Rattle.script.specs.declared.sides.SideNumber.{SideNumber}
+use Rattle.script.specs.declared.sides.SideNumber as D
+use Rattle.script.specs.declared.sides.SideField as SF
+use Rattle.script.specs.inner.Sides.{sideAt, sideRead, sideField}
 
-module _ (s : List ℕ) (f : Field) (a e : ℕ) where
-  in-line : f ≡ At a e → InLine s f → (a < e) × (e ≤ length s)
-  in-line p h = rw p at h
+module _ (s : List ℕ) (n : SignedNumber) (here : n ≡ signedOf s) where
+  pub no-side-so : n ≡ S.the-variants.Bad → D.the-variants.Bad ≡ sideRead s
+  unfolding sideRead
+  no-side-so p = rw (← here, p)
 
-  pub start-before : f ≡ At a e → InLine s f → a ≤ e
-  start-before p h = let k : (a < e) × (e ≤ length s) = in-line p h in omega arith
-
-  pub end-within : f ≡ At a e → InLine s f → e ≤ length s
-  end-within p h = let k : (a < e) × (e ≤ length s) = in-line p h in omega arith
-
-  pub start-within : f ≡ At a e → InLine s f → a < length s
-  start-within p h = let k : (a < e) × (e ≤ length s) = in-line p h in omega arith
-
-pub ruleset found = (start-before, end-within, start-within)
+  pub side-so : (k : Key) (w : ℕ) (d : SideNumber) → n ≡ S.the-variants.Is k → w ≡ stored (k .0) → d ≡ sideAt w → d ≡ sideRead s
+  unfolding sideRead
+  side-so k w d p q g = rw (← here, p, ← q, g)
 
 module _ (s : List ℕ) (from : ℕ) (f : Field) (here : f ≡ nextField s from) where
-  pub no-number : f ≡ Nothing → NF.the-variants.Bad ≡ numberField s from
-  unfolding numberField
-  no-number p = rw (← here, p)
-
-  pub no-key : f ≡ Nothing → KF.the-variants.Bad ≡ keyField s from
-  unfolding keyField
-  no-key p = rw (← here, p)
-
   pub no-side : f ≡ Nothing → SF.the-variants.Bad ≡ sideField s from
   unfolding sideField
   no-side p = rw (← here, p)
 
   module _ (a e : ℕ) (at : f ≡ At a e) where
-    pub number-is : (n : Number) (v : ℕ) → n ≡ unsignedOf (part s a e) → n ≡ N.the-variants.Is v →
-        NF.the-variants.Is v e ≡ numberField s from
-    unfolding numberField
-    number-is n v p q = rw (← here, at, ← p, q)
-
-    pub number-bad : (n : Number) → n ≡ unsignedOf (part s a e) → n ≡ N.the-variants.Bad → NF.the-variants.Bad ≡ numberField s from
-    unfolding numberField
-    number-bad n p q = rw (← here, at, ← p, q)
-
-    pub key-is : (n : SignedNumber) (v : Key) → n ≡ signedOf (part s a e) → n ≡ S.the-variants.Is v →
-        KF.the-variants.Is v e ≡ keyField s from
-    unfolding keyField
-    key-is n v p q = rw (← here, at, ← p, q)
-
-    pub key-bad : (n : SignedNumber) → n ≡ signedOf (part s a e) → n ≡ S.the-variants.Bad → KF.the-variants.Bad ≡ keyField s from
-    unfolding keyField
-    key-bad n p q = rw (← here, at, ← p, q)
-
-    pub side-is : (n : SideNumber) (v : Side) → n ≡ sideOf (part s a e) → n ≡ D.the-variants.Is v →
+    pub side-is : (n : SideNumber) (v : Side) → n ≡ sideRead (part s a e) → n ≡ D.the-variants.Is v →
         SF.the-variants.Is v e ≡ sideField s from
     unfolding sideField
     side-is n v p q = rw (← here, at, ← p, q)
 
-    pub side-bad : (n : SideNumber) → n ≡ sideOf (part s a e) → n ≡ D.the-variants.Bad → SF.the-variants.Bad ≡ sideField s from
+    pub side-bad : (n : SideNumber) → n ≡ sideRead (part s a e) → n ≡ D.the-variants.Bad → SF.the-variants.Bad ≡ sideField s from
     unfolding sideField
     side-bad n p q = rw (← here, at, ← p, q)

@@ -1,14 +1,15 @@
 // One line of a script as plain data. What reads well is a call; the rest is Nothing, Bad or Unknown.
 // A call with a wrong count of fields and one with a field that is no number of its kind are both Bad.
-use crate::fields;
-use crate::fields::Field;
-use crate::fields::KeyField;
-use crate::fields::NumberField;
-use crate::fields::SideField;
+use crate::sides;
+use crate::sides::SideField;
 use crate::words;
 use crate::words::Word;
 use handle::Key;
 use handle::Side;
+use input::fields;
+use input::fields::Field;
+use input::fields::KeyField;
+use input::fields::NumberField;
 
 // Where an insertion, or a look ahead at one, is asked for.
 pub enum Place {
@@ -111,7 +112,7 @@ fn manual(s: &[u8], at: usize) -> PlaceRead {
     let NumberField::Is(n, next) = fields::number_field(s, at) else {
         return PlaceRead::Bad;
     };
-    let SideField::Is(side, end) = fields::side_field(s, next) else {
+    let SideField::Is(side, end) = sides::side_field(s, next) else {
         return PlaceRead::Bad;
     };
     PlaceRead::Is(Place::Manual(n, side), end)

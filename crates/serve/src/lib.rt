@@ -1,49 +1,15 @@
-// A script's command and its answer. `s` is the store, `t` the table of insertions' numbers, `o` and `at` the output.
-// Every function is safe on any store; what is written is held against the Rust side by paired runs.
-mod dumping;
+// A script's commands carried out: each is one call of the queue, and its answer names entries by the numbers of insertions.
+// `s` is the store, `t` the table of those numbers. Every function is safe on any store and any table.
+mod looking;
+mod placing;
 
 use answers::answer::Answer;
-use answers::answer::write;
 use arena::words::STORE;
-use commands::looking;
-use commands::placing;
-use handle::Refusal;
-use output::out::ROOM;
 use script::command::Command;
 use script::table::TABLE;
 
-pub fn respond(
-    c: Command,
-    s: &mut [u64; STORE],
-    t: &mut [u64; TABLE],
-    o: &mut [u8; ROOM],
-    at: &mut usize,
-) {
-    match c {
-        Command::List => {
-            let is_passed = listing::list(s, o, at);
-            refuse_unless(is_passed, o, at);
-        }
-        Command::Dump => {
-            let is_passed = dumping::dump(s, t, o, at);
-            refuse_unless(is_passed, o, at);
-        }
-        _ => {
-            let a = change(c, s, t);
-            write(o, at, a);
-        }
-    }
-}
-
-// Where the header fails, nothing is written but the refusal.
-fn refuse_unless(is_passed: bool, o: &mut [u8; ROOM], at: &mut usize) {
-    if !is_passed {
-        write(o, at, Answer::Refused(Refusal::NotSound));
-    }
-}
-
-// The commands that change the queue, and those that are none.
-fn change(c: Command, s: &mut [u64; STORE], t: &mut [u64; TABLE]) -> Answer {
+// The answer of a command. `list` and `dump` have none here: theirs are many lines, which the program writes as it finds them.
+pub fn carry_out(c: Command, s: &mut [u64; STORE], t: &mut [u64; TABLE]) -> Answer {
     match c {
         Command::Nothing => Answer::Nothing,
         Command::Bad => Answer::BadLine,

@@ -3,9 +3,14 @@
 // copied. All that matters is in the crate `due`; this program only reads and writes numbers, and nothing else relies on it.
 mod text;
 
+ghost use lib.ListN.{length};
+ghost use Rattle.input.specs.inner.Lines.{Fits};
 use due::KeyAnswer;
 use due::TimeAnswer;
-use libc::STDIN_FILENO;
+use input::lines;
+use input::lines::Line;
+use input::lines::PART;
+use input::lines::Reader;
 use output::say;
 use text::Asked;
 
@@ -42,76 +47,38 @@ fn answer(line: &[u8]) {
     say::text(b"\n");
 }
 
-// A line of n bytes stands at the start of `line`; n past its end marks one that was too long to keep.
-fn end_line(line: &[u8], n: usize) {
-    if n <= line.len() {
-        answer(&line[0..n]);
-    } else {
-        say::text(b"(a line that is too long) -> no question\n");
+// Answers a line that was read into `line`, and says whether more may follow.
+fn answer_line(got: Line, line: &[u8]) -> bool
+    requires { ⌜ Fits got (length (now line)) ⌝ }
+{
+    match got {
+        Line::Whole(n) => answer(&line[0..n]),
+        Line::TooLong => say::text(b"(a line that is too long) -> no question\n"),
+        Line::Failed => {}
+        Line::End => {
+            return false;
+        }
     }
+    true
 }
 
-// One more byte: the number of bytes that the line then has.
-fn take(b: u8, line: &mut [u8], n: usize) -> usize {
-    if b == b'\n' {
-        end_line(line, n);
-        return 0;
-    }
-    if n < line.len() {
-        line[n] = b;
-        return n + 1;
-    }
-    if n == line.len() {
-        return n + 1;
-    }
-    n
-}
-
-fn feed(chunk: &[u8], line: &mut [u8], n: usize) -> usize {
-    let mut at = n;
-    let mut i = 0;
-    while i < chunk.len() {
-        at = take(chunk[i], line, at);
-        i += 1;
-    }
-    at
-}
-
-pub enum Fed {
-    More(usize),
-    End,
-}
-
-// One read, and its bytes.
-fn read_some(line: &mut [u8], n: usize) -> Fed {
-    let mut buf = io::large_buffer();
-    let got = libc::read(STDIN_FILENO, &mut buf);
-    if got <= 0 {
-        return Fed::End;
-    }
-    let k = io::count(got, &buf);
-    Fed::More(feed(&buf[..k], line, n))
-}
-
-// A proved loop has to end, and nothing says that the input does: so it counts its turns down from a number that no
-// run uses up.
-fn read_all(line: &mut [u8]) -> usize {
-    let mut n: usize = 0;
+// To the end of the input. It has fewer lines than the count of turns.
+fn answer_all(part: &mut [u8; PART], line: &mut [u8]) {
+    let mut reader = Reader::new();
     let mut turns = u64::MAX;
-    while turns > 0 {
-        let Fed::More(k) = read_some(line, n) else {
-            return n;
-        };
-        n = k;
+    while 0 < turns {
+        let read = lines::next(part, reader, line);
+        let got = read.line;
+        if !answer_line(got, line) {
+            break;
+        }
+        reader = read.reader;
         turns -= 1;
     }
-    n
 }
 
 fn main() {
+    let mut part = io::large_buffer();
     let mut line = [0u8; 80];
-    let n = read_all(&mut line);
-    if 0 < n {
-        end_line(&line, n);
-    }
+    answer_all(&mut part, &mut line);
 }

@@ -1,22 +1,12 @@
 // Questions as text. Nothing here is promised beyond that every call is safe and ends: the program's tests
 // compare what it makes of its input with another implementation.
-ghost use Prim.Native.Nat.{_≤_};
+use input::fields::KeyField;
+use input::fields::key_field;
 
 pub enum Asked {
     Key(i64, i64, i64),
     Time(i64, i64),
     Nothing,
-}
-
-// A number and the place after it.
-pub enum Field {
-    Number(i64, usize),
-    Bad,
-}
-
-struct Digits {
-    value: u64,
-    next: usize,
 }
 
 pub fn is_remark(s: &[u8]) -> bool {
@@ -26,101 +16,47 @@ pub fn is_remark(s: &[u8]) -> bool {
     s[0] == b'#'
 }
 
-// What an ASCII digit stands for, or 10 for another byte.
-fn digit(b: u8) -> u64
-    ensures { λ r. ⌜ r ≤ 10 ⌝ }
-{
-    if b < b'0' {
-        return 10;
-    }
-    if b'9' < b {
-        return 10;
-    }
-    (b - b'0') as u64
-}
-
-// The digits from a place on, as long as one more is sure to fit. A digit that is left over makes the field bad, since no
-// space follows the number.
-fn digits_from(s: &[u8], from: usize) -> Digits {
-    let mut value: u64 = 0;
-    let mut next = from;
-    while next < s.len() {
-        let d = digit(s[next]);
-        if 9 < d {
-            break;
-        }
-        if 922_337_203_685_477_580 < value {
-            break;
-        }
-        value = value * 10 + d;
-        next += 1;
-    }
-    Digits { value, next }
-}
-
-fn signed(is_negative: bool, value: u64, next: usize) -> Field {
-    if value <= 9_223_372_036_854_775_807 {
-        let n = value as i64;
-        if is_negative {
-            return Field::Number(0 - n, next);
-        }
-        return Field::Number(n, next);
-    }
-    if value == 9_223_372_036_854_775_808 && is_negative {
-        return Field::Number(-9_223_372_036_854_775_808, next);
-    }
-    Field::Bad
-}
-
-// A space and a number at a place.
-fn field_at(s: &[u8], at: usize) -> Field {
+// A space and a number at a place, read as a key, which any signed number is. A second space makes it bad.
+fn field_at(s: &[u8], at: usize) -> KeyField {
     if s.len() <= at {
-        return Field::Bad;
+        return KeyField::Bad;
     }
     if s[at] != b' ' {
-        return Field::Bad;
+        return KeyField::Bad;
     }
     let from = at + 1;
-    if from < s.len() && s[from] == b'-' {
-        return number(s, true, from + 1);
+    if from < s.len() && s[from] == b' ' {
+        return KeyField::Bad;
     }
-    number(s, false, from)
-}
-
-fn number(s: &[u8], is_negative: bool, from: usize) -> Field {
-    let d = digits_from(s, from);
-    if d.next == from {
-        return Field::Bad;
-    }
-    signed(is_negative, d.value, d.next)
+    key_field(s, from)
 }
 
 fn key_asked(s: &[u8]) -> Asked {
-    let Field::Number(day, a) = field_at(s, 3) else {
+    let KeyField::Is(day, a) = field_at(s, 3) else {
         return Asked::Nothing;
     };
-    let Field::Number(second, b) = field_at(s, a) else {
+    let KeyField::Is(second, b) = field_at(s, a) else {
         return Asked::Nothing;
     };
-    let Field::Number(offset, end) = field_at(s, b) else {
+    let KeyField::Is(offset, end) = field_at(s, b) else {
         return Asked::Nothing;
     };
     if end == s.len() {
-        Asked::Key(day, second, offset)
+        Asked::Key(day.0, second.0, offset.0)
     } else {
         Asked::Nothing
     }
 }
 
 fn time_asked(s: &[u8]) -> Asked {
-    let Field::Number(key, a) = field_at(s, 4) else {
+    let KeyField::Is(key, a) = field_at(s, 4) else {
         return Asked::Nothing;
     };
-    let Field::Number(offset, end) = field_at(s, a) else {
+    let KeyField::Is(offset, end) = field_at(s, a) else {
         return Asked::Nothing;
     };
     if end == s.len() {
-        Asked::Time(key, offset)
+        Asked::Time(key.0, offset.0)
     } else {
         Asked::Nothing
     }

@@ -8,7 +8,7 @@ use output::say;
 
 // Says whether the store is sound.
 pub fn check(s: &[u64]) {
-    if sound::sound(s) {
+    if queue::looking::check(s) {
         say::text(b"sound\n");
     } else {
         say::text(b"not sound\n");

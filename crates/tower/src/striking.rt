@@ -4,6 +4,8 @@ use handle::Handle;
 use handle::LIMIT;
 use handle::Reading;
 use handle::Removed;
+use listing::walking::Walk;
+use listing::walking::Walked;
 use output::say;
 use queue::cursor::Cursor;
 use queue::cursor::Moved;
@@ -41,20 +43,28 @@ pub fn reached(s: &[u64], m: Moved) {
     }
 }
 
-// Steps through the queue by the cursor, to its end.
+// Steps through the queue by the cursor, to its end. No queue has more strikes than the limit.
 pub fn step_through(s: &[u64]) {
-    // No queue has more strikes.
-    let mut left = LIMIT;
-    let mut m = Cursor::first(s);
-    while 0 < left {
+    let w = read_all(s);
+    if 0 < w.left {
         say::text(b"  ");
+        let m = w.moved;
         reached(s, m);
-        let Moved::At(c) = m else {
+    }
+}
+
+// Reads strike after strike. Answers where the walk has come to.
+fn read_all(s: &[u64]) -> Walk {
+    let mut w = Walk::first(s, LIMIT);
+    loop {
+        let Walked::At(h, on) = w.next(s) else {
             break;
         };
-        m = c.forward(s);
-        left -= 1;
+        say::text(b"  ");
+        read(s, h);
+        w = on;
     }
+    w
 }
 
 // Strikes the first strike again and again, till none is left.

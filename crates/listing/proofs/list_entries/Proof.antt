@@ -1,12 +1,13 @@
+use Rattle.listing.proofs.Nearing.{nearing}
 use borrow.Author.Needs.{needs}
 use Rattle.listing.proofs.list_entries.Statement.{statement}
 use Rattle.listing.proofs.list_entries.Tie as tie
 
 abbrev Inv-loop : tie.InvT-loop
-Inv-loop s cap o₀ at₀ left₀ m₀ o at left m = Unit {0}
+Inv-loop s cap o₀ at₀ w₀ o at w = Unit {0}
 
 abbrev μ-loop : tie.MeasureT-loop
-μ-loop s cap o₀ at₀ left₀ m₀ o at left m = left
+μ-loop s cap o₀ at₀ w₀ o at w = w .left
 
 first-requires : tie.Need-first-requires Inv-loop μ-loop
 first-requires c κs = search needs
@@ -14,29 +15,26 @@ first-requires c κs = search needs
 loop-holds : tie.Need-loop-holds Inv-loop μ-loop
 loop-holds c = search needs
 
-enum-known-m : tie.Need-enum-known-m Inv-loop μ-loop
-enum-known-m c = search needs
+next-requires : tie.Need-next-requires Inv-loop μ-loop
+next-requires c κs = search needs
+
+enum-known-h : tie.Need-enum-known-h Inv-loop μ-loop
+enum-known-h c = search needs
+
+enum-told : tie.Need-enum-told Inv-loop μ-loop
+enum-told c = search needs
 
 list-entry-requires : tie.Need-list-entry-requires Inv-loop μ-loop
 list-entry-requires c κs = search needs
 
-forward-requires : tie.Need-forward-requires Inv-loop μ-loop
-forward-requires c κs = search needs
-
-sub-left : tie.Need-sub-left Inv-loop μ-loop
-sub-left c = search needs
-
 loop-less : tie.Need-loop-less Inv-loop μ-loop
-loop-less c = search needs
+loop-less c = search nearing
 
 loop-again : tie.Need-loop-again Inv-loop μ-loop
 loop-again c = search needs
 
 returns : tie.Need-returns Inv-loop μ-loop
 returns c = search needs
-
-returns-2 : tie.Need-returns-2 Inv-loop μ-loop
-returns-2 c = search needs
 
 pub list-entries-spec : {M : Type 1} → statement M
 list-entries-spec =
@@ -46,11 +44,10 @@ list-entries-spec =
     μ-loop
     first-requires
     loop-holds
-    enum-known-m
+    next-requires
+    enum-known-h
+    enum-told
     list-entry-requires
-    forward-requires
-    sub-left
     loop-less
     loop-again
-    returns
-    returns-2)
+    returns)

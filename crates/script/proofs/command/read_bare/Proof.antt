@@ -1,4 +1,4 @@
-use Rattle.script.proofs.Parts.{found}
+use Rattle.input.proofs.Parts.{found}
 use borrow.Author.Needs.{needs}
 use Rattle.script.proofs.command.read_bare.Statement.{statement}
 use Rattle.script.proofs.command.read_bare.Tie as tie
