@@ -3,7 +3,7 @@
 mod dumping;
 
 ghost use lib.ListN.{length};
-ghost use Rattle.input.specs.inner.Lines.{Fits};
+ghost use Rattle.input.specs.inner.Lines.{LineFits};
 use answers::answer;
 use answers::answer::Answer;
 use arena::words::STORE;
@@ -62,7 +62,7 @@ fn serve_line(
     o: &mut [u8; ROOM],
     at: &mut usize,
 ) -> bool
-    requires { ⌜ Fits got (length (now line)) ⌝ }
+    requires { ⌜ LineFits got (length (now line)) ⌝ }
 {
     match got {
         Line::Whole(n) => {

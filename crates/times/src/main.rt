@@ -4,7 +4,7 @@
 mod text;
 
 ghost use lib.ListN.{length};
-ghost use Rattle.input.specs.inner.Lines.{Fits};
+ghost use Rattle.input.specs.inner.Lines.{LineFits};
 use due::KeyAnswer;
 use due::TimeAnswer;
 use input::lines;
@@ -49,7 +49,7 @@ fn answer(line: &[u8]) {
 
 // Answers a line that was read into `line`, and says whether more may follow.
 fn answer_line(got: Line, line: &[u8]) -> bool
-    requires { ⌜ Fits got (length (now line)) ⌝ }
+    requires { ⌜ LineFits got (length (now line)) ⌝ }
 {
     match got {
         Line::Whole(n) => answer(&line[0..n]),
