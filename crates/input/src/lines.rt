@@ -7,11 +7,12 @@ use libc::STDIN_FILENO;
 // How many bytes are read at once.
 pub const PART: usize = 65536;
 
-// A line of so many bytes, at the start of the lent ones; or one that has more. Where a read fails, none follows it, and what was
-// read before is still to come.
+// A line of so many bytes, at the start of the lent ones; or one that has more. A line that is only begun goes on in the next part.
+// Where a read fails, none follows it, and what was read before is still to come.
 pub enum Line {
     Whole(usize),
     TooLong,
+    Begun,
     Failed,
     End,
 }
@@ -29,13 +30,6 @@ pub struct Read {
     pub reader: Reader,
 }
 
-enum Turn {
-    Line(Reader),
-    More(Reader),
-    Failed(Reader),
-    End,
-}
-
 impl Reader {
     // Before the first read, as if a part had been used up.
     pub fn new() -> Reader {
@@ -47,36 +41,38 @@ impl Reader {
     }
 }
 
-// The next line. A proved loop has to end, and nothing says that the input does: so it counts down from a number that no run uses up.
-pub fn next(part: &mut [u8; PART], from: Reader, line: &mut [u8]) -> Read
-    ensures { λ r. ⌜ LineFits (r .line) (length (now (line .exit))) ⌝ }
+// On to the end of the line or of the part, or to the next part.
+pub fn next(part: &mut [u8; PART], r: Reader, line: &mut [u8]) -> Read
+    ensures { λ a. ⌜ LineFits (a .line) (length (now (line .exit))) ⌝ }
 {
-    let mut reader = from;
-    let mut turns = u64::MAX;
-    while 0 < turns {
-        let turn = step(part, reader, line);
-        match turn {
-            Turn::Line(r) => {
-                return whole(r, line.len());
-            }
-            Turn::More(r) => {
-                reader = r;
-            }
-            Turn::Failed(r) => {
-                return Read {
-                    line: Line::Failed,
-                    reader: r,
-                };
-            }
-            Turn::End => {
-                break;
-            }
+    if r.at < r.end {
+        return scan(part, r, line);
+    }
+    if 0 < r.end {
+        let got = libc::read(STDIN_FILENO, part);
+        let end = io::count(got, part);
+        let reader = Reader {
+            at: 0,
+            end,
+            held: r.held,
+        };
+        if got < 0 {
+            return Read {
+                line: Line::Failed,
+                reader,
+            };
         }
-        turns -= 1;
+        return Read {
+            line: Line::Begun,
+            reader,
+        };
+    }
+    if 0 < r.held {
+        return whole(r, line.len());
     }
     Read {
         line: Line::End,
-        reader,
+        reader: r,
     }
 }
 
@@ -101,22 +97,10 @@ fn whole(r: Reader, room: usize) -> Read
     }
 }
 
-// On to the end of the line or of the part, or to the next part.
-fn step(part: &mut [u8; PART], r: Reader, line: &mut [u8]) -> Turn {
-    if r.at < r.end {
-        return scan(part, r, line);
-    }
-    if 0 < r.end {
-        return refill(part, r.held);
-    }
-    if 0 < r.held {
-        return Turn::Line(r);
-    }
-    Turn::End
-}
-
 // Keeps the part's bytes up to the next newline.
-fn scan(part: &[u8; PART], r: Reader, line: &mut [u8]) -> Turn {
+fn scan(part: &[u8; PART], r: Reader, line: &mut [u8]) -> Read
+    ensures { λ a. ⌜ LineFits (a .line) (length (now (line .exit))) ⌝ }
+{
     let end = r.end;
     let mut at = r.at;
     let mut held = r.held;
@@ -124,11 +108,14 @@ fn scan(part: &[u8; PART], r: Reader, line: &mut [u8]) -> Turn {
         let b = part[at];
         at += 1;
         if b == b'\n' {
-            return Turn::Line(Reader { at, end, held });
+            return whole(Reader { at, end, held }, line.len());
         }
         held = keep(line, held, b);
     }
-    Turn::More(Reader { at: end, end, held })
+    Read {
+        line: Line::Begun,
+        reader: Reader { at: end, end, held },
+    }
 }
 
 // One more byte of the line: how many are kept then.
@@ -138,15 +125,4 @@ fn keep(line: &mut [u8], held: usize, b: u8) -> usize {
         return held + 1;
     }
     line.len() + 1
-}
-
-// The next part.
-fn refill(part: &mut [u8; PART], held: usize) -> Turn {
-    let got = libc::read(STDIN_FILENO, part);
-    let end = io::count(got, part);
-    let reader = Reader { at: 0, end, held };
-    if got < 0 {
-        return Turn::Failed(reader);
-    }
-    Turn::More(reader)
 }

@@ -70,6 +70,7 @@ fn serve_line(
             respond(c, s, t, o, at);
         }
         Line::TooLong => respond(Command::Bad, s, t, o, at),
+        Line::Begun => {}
         Line::Failed => tell_failed(),
         Line::End => {
             return false;
@@ -85,7 +86,7 @@ fn tell_failed() {
     );
 }
 
-// To the end of the input. It has fewer lines than the count of turns.
+// A proved loop has to end, and nothing says that the input does: so it counts its turns down from a number that no run uses up.
 fn serve_all(
     part: &mut [u8; PART],
     line: &mut [u8],

@@ -54,7 +54,7 @@ fn answer_line(got: Line, line: &[u8]) -> bool
     match got {
         Line::Whole(n) => answer(&line[0..n]),
         Line::TooLong => say::text(b"(a line that is too long) -> no question\n"),
-        Line::Failed => {}
+        Line::Begun | Line::Failed => {}
         Line::End => {
             return false;
         }
@@ -62,7 +62,7 @@ fn answer_line(got: Line, line: &[u8]) -> bool
     true
 }
 
-// To the end of the input. It has fewer lines than the count of turns.
+// A proved loop has to end, and nothing says that the input does: so it counts its turns down from a number that no run uses up.
 fn answer_all(part: &mut [u8; PART], line: &mut [u8]) {
     let mut reader = Reader::new();
     let mut turns = u64::MAX;

@@ -30,11 +30,14 @@ respond-requires-2 c κs = search needs
 enum-told-2 : tie.Need-enum-told-2
 enum-told-2 c = search needs
 
+enum-told-3 : tie.Need-enum-told-3
+enum-told-3 c = search needs
+
 tell-failed-requires : tie.Need-tell-failed-requires
 tell-failed-requires c κs = search needs
 
-enum-told-3 : tie.Need-enum-told-3
-enum-told-3 c = search needs
+enum-told-4 : tie.Need-enum-told-4
+enum-told-4 c = search needs
 
 returns : tie.Need-returns
 returns c = search needs
@@ -47,6 +50,9 @@ returns-3 c = search needs
 
 returns-4 : tie.Need-returns-4
 returns-4 c = search needs
+
+returns-5 : tie.Need-returns-5
+returns-5 c = search needs
 
 pub serve-line-spec : {M : Type 1} → statement M
 serve-line-spec =
@@ -61,9 +67,11 @@ serve-line-spec =
     enum-told
     respond-requires-2
     enum-told-2
-    tell-failed-requires
     enum-told-3
+    tell-failed-requires
+    enum-told-4
     returns
     returns-2
     returns-3
-    returns-4)
+    returns-4
+    returns-5)

@@ -30,9 +30,6 @@ text-requires c κs = search needs
 enum-told-2 : tie.Need-enum-told-2
 enum-told-2 c = search needs
 
-enum-told-3 : tie.Need-enum-told-3
-enum-told-3 c = search needs
-
 returns : tie.Need-returns
 returns c = search needs
 
@@ -58,7 +55,6 @@ answer-line-spec =
     slice-aggregate-text
     text-requires
     enum-told-2
-    enum-told-3
     returns
     returns-2
     returns-3

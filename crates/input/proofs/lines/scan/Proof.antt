@@ -20,6 +20,9 @@ element-copy-out-b c = search needs
 add-at : tie.Need-add-at Inv-loop μ-loop
 add-at c = search needs
 
+whole-requires : tie.Need-whole-requires Inv-loop μ-loop
+whole-requires c κs = search needs
+
 same-length : tie.Need-same-length Inv-loop μ-loop
 same-length c = search needs
 
@@ -56,6 +59,7 @@ scan-spec =
     loop-holds
     element-copy-out-b
     add-at
+    whole-requires
     same-length
     returns
     keep-requires
