@@ -1,4 +1,4 @@
-// The kinds of number that the queue's callers hold: slots, generations, keys, handles, sides and refusals.
+// What the queue's callers hold: slots, generations, keys, handles, sides and refusals, and the answers of the calls.
 // Each is a type of its own, so that none can be passed for another (document 01, "What a queue holds").
 // From the Rust: fundamental/ptr.rs (Ptr, its index and its generation) and fundamental/errors.rs.
 ghost use mathlib.Core.Path.{_≡_};
