@@ -1,5 +1,5 @@
 //! The queue's calls for tests in Rust: each is a function of the static library that `rt staticlib host_numbers` makes. An answer is a code
-//! and a row of four numbers, as crates/host_numbers/specs/Told.antt says: 1 to 6 refuse, 16 and up answer.
+//! and a row of four numbers, as crates/host_numbers/specs/inner/Told.antt says: 1 to 6 refuse, 16 and up answer.
 
 /// The code of laid out, new, equal, at, and of an entry that was read or removed.
 pub const FIRST: u64 = 16;
