@@ -1,5 +1,6 @@
 #!/usr/bin/env python3
-# Due times once more, written from document 01 and from nothing else of the project, to compare the program `times` with.
+# Due times once more, written from document 01 and request 1 of document 02 and from nothing else of the project, to
+# compare the program `times` with.
 # `table FILE` writes what the program must answer to the questions in FILE; `compare PROGRAM [COUNT [SEED]]` asks the
 # program many questions and fails at the first answer that differs.
 import random
@@ -9,32 +10,34 @@ import sys
 DAY = 86_400
 DAYS = 1_000_000
 OFFSET = 50_400
+DRUMS = 8
 LEAST, MOST = -(2**63), 2**63 - 1
-LONGEST = 80  # bytes that the program keeps of a line; a longer one is not looked at, remark or not
+LONGEST = 96  # bytes that the program keeps of a line; a longer one is not looked at, remark or not
 LIMIT = 100  # differences that are shown
 
 
-def floor_parts(z):
-    """Floor and remainder by counting whole days up from zero, not by Python's own // on a negative number."""
+def floor_parts(z, lot):
+    """Floor and remainder by counting whole lots up from zero, not by Python's own // on a negative number."""
     if z >= 0:
-        return z // DAY, z % DAY
-    up = (-z + DAY - 1) // DAY  # whole days that lift z to zero or above
-    return -up, z + up * DAY
+        return z // lot, z % lot
+    up = (-z + lot - 1) // lot  # whole lots that lift z to zero or above
+    return -up, z + up * lot
 
 
-def key_of(day, second, offset):
-    if abs(day) > DAYS or not 0 <= second < DAY or abs(offset) > OFFSET:
+def key_of(day, second, offset, drum):
+    if abs(day) > DAYS or not 0 <= second < DAY or abs(offset) > OFFSET or not 0 <= drum < DRUMS:
         return None
-    return day * DAY + second - offset
+    return (day * DAY + second - offset) * DRUMS + drum
 
 
 def time_of(key, offset):
     if abs(offset) > OFFSET:
         return None
-    day, second = floor_parts(key + offset)
+    moment, drum = floor_parts(key, DRUMS)
+    day, second = floor_parts(moment + offset, DAY)
     if abs(day) > DAYS:
         return None
-    return day, second
+    return day, second, drum
 
 
 def number(word):
@@ -55,12 +58,12 @@ def answer(line):
     values = [number(w) for w in words[1:]]
     said = "no question"
     if None not in values:
-        if words[0] == "key" and len(values) == 3:
+        if words[0] == "key" and len(values) == 4:
             key = key_of(*values)
             said = "refused 6" if key is None else str(key)
         elif words[0] == "time" and len(values) == 2:
             time = time_of(*values)
-            said = "refused 6" if time is None else f"{time[0]} {time[1]}"
+            said = "refused 6" if time is None else f"{time[0]} {time[1]} {time[2]}"
     return f"{line} -> {said}"
 
 
@@ -74,24 +77,27 @@ def questions(count, seed):
     days = near([-DAYS, DAYS, 0], 2) + near(ends, 1)
     seconds = near([0, DAY - 1], 2) + near(ends, 1)
     offsets = near([-OFFSET, OFFSET, 0], 2) + near(ends, 1)
-    asked = [f"key {d} {s} {o}" for d in days for s in seconds for o in offsets]
+    drums = near([0, DRUMS - 1], 1) + ends
+    asked = [f"key {d} {s} {o} {n}" for d in days for s in seconds for o in offsets for n in drums]
     edges = [d * DAY for d in (-DAYS - 1, -DAYS, -2, -1, 0, 1, 2, DAYS, DAYS + 1)]
     for o in offsets:
         # keys whose local second is at the edge of a day, and keys whose sum with the offset leaves 64 bits
-        keys = near([e - o for e in edges if LEAST <= e - o <= MOST], 2) + near(ends, 2)
+        keys = near([(e - o) * DRUMS for e in edges if LEAST <= (e - o) * DRUMS <= MOST], DRUMS + 1) + near(ends, DRUMS)
         keys += [k for k in (MOST - o, MOST - o + 1, LEAST - o, LEAST - o - 1) if LEAST <= k <= MOST]
         asked += [f"time {k} {o}" for k in keys]
     while len(asked) < count:
         o = rnd.randint(-OFFSET - 50, OFFSET + 50)
         kind = rnd.randrange(6)
         if kind < 2:
-            asked.append(f"key {rnd.randint(-DAYS, DAYS)} {rnd.randint(0, DAY - 1)} {o}")
+            asked.append(f"key {rnd.randint(-DAYS, DAYS)} {rnd.randint(0, DAY - 1)} {o} {rnd.randrange(DRUMS)}")
         elif kind == 2:
-            asked.append(f"key {rnd.randint(-DAYS - 9, DAYS + 9)} {rnd.randint(-9, DAY + 9)} {o}")
+            n = rnd.randint(-2, DRUMS + 1)
+            asked.append(f"key {rnd.randint(-DAYS - 9, DAYS + 9)} {rnd.randint(-9, DAY + 9)} {o} {n}")
         elif kind == 3:
-            asked.append(f"time {rnd.randint(-DAYS * DAY - 2 * DAY, DAYS * DAY + 2 * DAY)} {o}")
+            span = DAYS * DAY + 2 * DAY
+            asked.append(f"time {rnd.randint(-span * DRUMS, span * DRUMS)} {o}")
         elif kind == 4:
-            asked.append(f"time {rnd.randint(-3 * DAY, 3 * DAY)} {o}")
+            asked.append(f"time {rnd.randint(-3 * DAY * DRUMS, 3 * DAY * DRUMS)} {o}")
         else:
             asked.append(f"time {rnd.randint(LEAST, MOST)} {rnd.choice([o, rnd.randint(LEAST, MOST)])}")
     return asked

@@ -7,7 +7,7 @@ use lib.Dec.{T}
 use lib.Signed.{leZ, leZ-yes}
 use mir.Syntax.{w64}
 use mir.Val.{SFits}
-use Rattle.due.specs.Due.{InBounds, GoodTime, dayLow, dayHigh, secondLow, secondHigh, offsetLow, offsetHigh, momentOf}
+use Rattle.due.specs.Due.{InBounds, GoodTime, GoodDrum, dayLow, dayHigh, secondLow, secondHigh, offsetLow, offsetHigh, momentOf}
 use Rattle.due.proofs.Signs.{up, down, apart, sum-law, up-times, down-times, le-out}
 use Rattle.due.proofs.Moments.{moment-law}
 use Rattle.due.proofs.Sizes.{fits}
@@ -44,6 +44,25 @@ module _ (d s o : ℤ) (g : GoodTime d s o) where
       let e = moment-law d s o in
       fits (momentOf d s o) (omega (arith, day-small .0, second-small .0, offset-small .1))
       (omega (arith, day-small .1, second-small .1, offset-small .0))
+
+  -- a key is eight times as large, and the drum more
+  pub eighths-fit : SFits w64 (momentOf d s o *ℤ pos 8)
+  eighths-fit =
+      let m = momentOf d s o in
+      let p = apart m in
+      let e = moment-law d s o in
+      fits (m *ℤ pos 8) (omega (arith, up-times m 8, day-small .0, second-small .0, offset-small .1))
+      (omega (arith, down-times m 8, day-small .1, second-small .1, offset-small .0))
+
+  pub key-fits : (n : ℤ) → GoodDrum n → SFits w64 (momentOf d s o *ℤ pos 8 +ℤ n)
+  key-fits n h =
+      let m = momentOf d s o in
+      let p = apart m in
+      let e = moment-law d s o in
+      let f = sum-law (m *ℤ pos 8) n in
+      let q = apart (m *ℤ pos 8 +ℤ n) in
+      fits (m *ℤ pos 8 +ℤ n) (omega (arith, up-times m 8, down-times m 8, day-small .0, second-small .0, offset-small .1, le-out (h .below)))
+      (omega (arith, up-times m 8, down-times m 8, day-small .1, second-small .1, offset-small .0, le-out (h .above)))
 
 -- the sum of a moment that lies between the first and the last one of an offset, and that offset
 pub local-fits : (m o : ℤ) → InBounds offsetLow offsetHigh o → InBounds (momentOf dayLow secondLow o) (momentOf dayHigh secondHigh o) m → SFits w64 (m +ℤ o)

@@ -1,6 +1,7 @@
--- Due times (document 01, "Due times"): a day, a second and an offset become a key, and a key becomes a time again.
--- A reader may rely on `toKey` and `fromKey`, which say the answer for all numbers, refusals too; their laws are in
--- proofs/Times, and document 01's examples in proofs/Runs. The key's formula stands here alone. Assumes nothing.
+-- Due times (document 01, "Due times", as request 1 of document 02 changes it): a local time and a drum become a key,
+-- and a key becomes a time and a drum again. A reader may rely on `toKey` and `fromKey`, which say the answer for all
+-- numbers, refusals too; their laws are in proofs/Times, and the documents' examples in proofs/Runs. The key's formula
+-- stands here alone. Assumes nothing.
 use mathlib.Core.Path.{_≡_}
 use Prim.Native.Nat.{ℕ}
 use mathlib.Core.Bool.{Bool, true, false, _&&_}
@@ -36,6 +37,13 @@ offsetLow = minus 50_400
 abbrev pub offsetHigh : ℤ
 offsetHigh = pos 50_400
 
+-- "drum 0 to 7"
+abbrev pub drumLow : ℤ
+drumLow = pos 0
+
+abbrev pub drumHigh : ℤ
+drumHigh = pos 7
+
 -- low ≤ z ≤ high, as a test and as a fact
 unfoldable pub within : ℤ → ℤ → ℤ → Bool
 within low high z = leZ low z && leZ z high
@@ -53,11 +61,17 @@ goodSecond second = within secondLow secondHigh second
 abbrev pub goodOffset : ℤ → Bool
 goodOffset offset = within offsetLow offsetHigh offset
 
--- every field of a time lies in its range
+abbrev pub goodDrum : ℤ → Bool
+goodDrum drum = within drumLow drumHigh drum
+
+-- every field of a local time lies in its range; the drum's fact stands apart, for a moment has no drum
 pub record GoodTime (day second offset : ℤ) : Type 0 where
   pub dayIn : InBounds dayLow dayHigh day
   pub secondIn : InBounds secondLow secondHigh second
   pub offsetIn : InBounds offsetLow offsetHigh offset
+
+abbrev pub GoodDrum : ℤ → Type 0
+GoodDrum drum = InBounds drumLow drumHigh drum
 
 -- ---- the answers
 
@@ -66,18 +80,18 @@ pub data KeyFound : Type 0 where
   keyIs : ℤ → KeyFound
   noKey : ℕ → KeyFound
 
--- day and second, or the refusal's number
+-- day, second and drum, or the refusal's number
 pub data TimeFound : Type 0 where
-  timeIs : ℤ → ℤ → TimeFound
+  timeIs : ℤ → ℤ → ℤ → TimeFound
   noTime : ℕ → TimeFound
 
 abbrev pub keyOr6 : Bool → ℤ → KeyFound
 keyOr6 true k = keyIs k
 keyOr6 false k = noKey (refusalNumber BadTime)
 
-abbrev pub timeOr6 : Bool → ℤ → ℤ → TimeFound
-timeOr6 true day second = timeIs day second
-timeOr6 false day second = noTime (refusalNumber BadTime)
+abbrev pub timeOr6 : Bool → ℤ → ℤ → ℤ → TimeFound
+timeOr6 true day second drum = timeIs day second drum
+timeOr6 false day second drum = noTime (refusalNumber BadTime)
 
 -- ---- there and back
 
@@ -88,33 +102,51 @@ secondsADay = 86_400
 unfoldable pub momentOf : ℤ → ℤ → ℤ → ℤ
 momentOf day second offset = day *ℤ pos secondsADay +ℤ second -ℤ offset
 
--- "Key = day x 86,400 + second - offset": the key is the moment. Request 1 changes this line, `fromKey` and `toKey`
-abbrev pub keyOf : ℤ → ℤ → ℤ → ℤ
-keyOf day second offset = momentOf day second offset
+-- how many drums there are at each moment
+abbrev pub drums : ℕ
+drums = 8
 
--- "Back: the day is the floor of (key + offset) / 86,400, the second is the remainder"
+-- "key = (day x 86,400 + second - offset) x 8 + drum"
+unfoldable pub keyOf : ℤ → ℤ → ℤ → ℤ → ℤ
+keyOf day second offset drum = momentOf day second offset *ℤ pos drums +ℤ drum
+
+-- "Going back, the drum is the remainder by 8, never negative, and the rest is the floor": the rest is the moment
+unfoldable pub drumOf : ℤ → ℤ
+drumOf key = pos (floorMod key drums)
+
+unfoldable pub momentIn : ℤ → ℤ
+momentIn key = floorDiv key drums
+
+-- "Back: the day is the floor of (key + offset) / 86,400, the second is the remainder"; for the key stands the moment
 unfoldable pub dayOf : ℤ → ℤ → ℤ
 dayOf moment offset = floorDiv (moment +ℤ offset) secondsADay
 
 unfoldable pub secondOf : ℤ → ℤ → ℤ
 secondOf moment offset = pos (floorMod (moment +ℤ offset) secondsADay)
 
--- the key of a local time at an offset; 6 where a field is out of its range
-unfoldable pub toKey : ℤ → ℤ → ℤ → KeyFound
-toKey day second offset =
-    keyOr6 (goodDay day && goodSecond second && goodOffset offset) (keyOf day second offset)
+-- the key of a drum at a local time and offset; 6 where a field is out of its range, "a drum over 7" too
+unfoldable pub toKey : ℤ → ℤ → ℤ → ℤ → KeyFound
+toKey day second offset drum =
+    keyOr6 (goodDay day && goodSecond second && goodOffset offset && goodDrum drum) (keyOf day second offset drum)
 
--- the local time of a key at an offset; "a day out of range is 6", and so is an offset out of range
+-- the local time and the drum of a key at an offset; "a day out of range is 6", and so is an offset out of range
 unfoldable pub fromKey : ℤ → ℤ → TimeFound
 fromKey key offset =
-    timeOr6 (goodOffset offset && goodDay (dayOf key offset)) (dayOf key offset) (secondOf key offset)
+    timeOr6 (goodOffset offset && goodDay (dayOf (momentIn key) offset)) (dayOf (momentIn key) offset) (secondOf (momentIn key) offset) (drumOf key)
 
 -- a key that `fromKey` answers: the offset and the day that is read from it lie in their ranges
 pub record GoodKey (key offset : ℤ) : Type 0 where
   pub offsetIn : InBounds offsetLow offsetHigh offset
-  pub dayIn : InBounds dayLow dayHigh (dayOf key offset)
+  pub dayIn : InBounds dayLow dayHigh (dayOf (momentIn key) offset)
+
+-- ---- the order
 
 -- one local time lies before another
 pub data Earlier (day second day′ second′ : ℤ) : Type 0 where
   earlierDay : day <ℤ day′ → Earlier day second day′ second′
   sameDay : day ≡ day′ → second <ℤ second′ → Earlier day second day′ second′
+
+-- one strike comes before another: its time lies before, or at one time its drum is the lower
+pub data Sooner (day second drum day′ second′ drum′ : ℤ) : Type 0 where
+  earlierTime : Earlier day second day′ second′ → Sooner day second drum day′ second′ drum′
+  lowerDrum : day ≡ day′ → second ≡ second′ → drum <ℤ drum′ → Sooner day second drum day′ second′ drum′

@@ -10,10 +10,10 @@ use Rattle.due.specs.declared.TimeAnswer.the-variants as T
 
 -- `At` holds the key
 abbrev pub keyFound : KeyAnswer → KeyFound
-keyFound (K.At k) = keyIs k
+keyFound (K.At k) = keyIs (k .0)
 keyFound K.BadTime = noKey (refusalNumber BadTime)
 
--- `At` holds day and second
+-- `At` holds the time, day and second, and the drum
 abbrev pub timeFound : TimeAnswer → TimeFound
-timeFound (T.At t) = timeIs (t .day) (t .second)
+timeFound (T.At t n) = timeIs (t .day .0) (t .second .0) (n .0)
 timeFound T.BadTime = noTime (refusalNumber BadTime)

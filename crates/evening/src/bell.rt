@@ -5,6 +5,7 @@ use handle::Handle;
 use output::say;
 use queue::cursor::Cursor;
 use tower::checking;
+use tower::clock;
 use tower::planning::Way;
 use tower::planning::lay;
 use tower::planning::plan;
@@ -31,8 +32,8 @@ pub fn misplace(s: &mut Store, quarter: Handle) {
     say::text(
         b"It is planned again where it can't stand; the given strike is that of the first quarter.\n",
     );
-    plan_so(s, Way::Alone, hour::HALF, 2);
-    plan_so(s, Way::Before(quarter), hour::HALF, 2);
+    plan_so(s, Way::Alone, clock::quarter(hour::HALF), 2);
+    plan_so(s, Way::Before(quarter), clock::quarter(hour::HALF), 2);
 }
 
 pub fn lose_link(s: &mut Store, quarter: Handle) {
@@ -57,9 +58,9 @@ pub fn strike(s: &mut Store) {
 pub fn retire(s: &mut Store) {
     say::text(b"A slot comes to its last generation.\n");
     lay(s, 1, 1);
-    plan(s, hour::SIX, 6);
+    plan(s, clock::hour(hour::SIX), 6);
     striking::strike_all(s);
-    plan(s, hour::HALF, 2);
+    plan(s, clock::quarter(hour::HALF), 2);
     say::text(b"  the check: ");
     checking::check(s);
 }

@@ -5,6 +5,7 @@ use arena::words::STORE;
 use handle::Handle;
 use handle::LIMIT;
 use output::say;
+use tower::clock;
 use tower::planning::lay;
 use tower::planning::plan;
 
@@ -39,25 +40,30 @@ fn lay_wide(s: &mut [u64; WIDE]) {
 pub fn lay_out(s: &mut Store) {
     let mut wide = [0u64; WIDE];
     say::text(b"A queue is laid out. Before that no strike can be planned.\n");
-    plan(s, SIX, 6);
+    plan(s, clock::hour(SIX), 6);
     lay(s, 0, 9);
     lay_wide(&mut wide);
+    lay(s, 7, 9);
     lay(s, 6, 9);
-    lay(s, 5, 9);
 }
 
 pub fn plan_all(s: &mut Store) -> Planned {
     say::text(
         b"The hour's strikes are planned in no order, seven o'clock with six strokes by mistake.\n",
     );
-    let seven = plan(s, SEVEN, 6);
-    let quarter = plan(s, FIRST_QUARTER, 1);
-    plan(s, LAST_QUARTER, 3);
-    plan(s, SIX, 6);
-    let half = plan(s, HALF, 2);
-    plan(s, EVENING_BELL, 33);
-    plan(s, MIDNIGHT, 12);
-    let again = plan(s, SEVEN, 7);
+    say::text(
+        b"At seven the quarters and the hour are due on the same second, each on its drum.\n",
+    );
+    let seven = plan(s, clock::hour(SEVEN), 6);
+    let quarter = plan(s, clock::quarter(FIRST_QUARTER), 1);
+    plan(s, clock::quarter(LAST_QUARTER), 3);
+    plan(s, clock::hour(SIX), 6);
+    let half = plan(s, clock::quarter(HALF), 2);
+    plan(s, clock::quarter(SEVEN), 4);
+    plan(s, clock::bell(EVENING_BELL), 33);
+    plan(s, clock::hour(MIDNIGHT), 12);
+    plan(s, clock::no_drum(SEVEN), 7);
+    let again = plan(s, clock::hour(SEVEN), 7);
     compare(seven, again);
     Planned { quarter, half }
 }

@@ -8,8 +8,8 @@ use arena::words::HEAD_WORDS;
 use output::say;
 use tower::clock;
 
-// What the clock lends: the numbers that five slots take.
-const LENT: usize = (HEAD_WORDS + 5 * FIELDS) as usize;
+// What the clock lends: the numbers that six slots take.
+const LENT: usize = (HEAD_WORDS + 6 * FIELDS) as usize;
 
 type Store = [u64; LENT];
 

@@ -40,6 +40,6 @@ pub fn refused(r: Refusal) {
         Refusal::InvalidPtr => text(b" (no strike has this handle)\n"),
         Refusal::BadLayout => text(b" (no queue can be laid out so)\n"),
         Refusal::NotSound => text(b" (the store holds no sound queue)\n"),
-        Refusal::BadTime => text(b" (there is no such time)\n"),
+        Refusal::BadTime => text(b" (there is no such time or drum)\n"),
     }
 }

@@ -21,5 +21,5 @@ unfolding decLe decLt ℕ-discrete choose first last inorder size plug before af
 starred = record {
   queue = ((λ e. refl, refl), ((λ e. refl, refl), ((λ e. refl, refl), ((λ e. refl, refl), ((λ e. refl, refl), ((λ e. refl, refl), ((λ e. refl, refl), ((λ e. refl, refl), ((λ e. refl, refl), ((λ e. refl, refl), tt))))))))));
   listed = refl;
-  times = day-before .1;
+  times = day-before .2;
 }

@@ -111,5 +111,5 @@ pub record Starred : Type 0 where
   pub queue : All Comes runs
   -- "Listing of A, whole"
   pub listed : listing (runA .tree) ≡ (key 10, 1, 0, 1, 1) ∷ (key 20, 2, 1, 1, 2) ∷ (key 30, 3, 2, 1, 1) ∷ []
-  -- "*K: Key -1 is at day -1, second 86,399."
-  pub times : fromKey (minus 1) (pos 0) ≡ timeIs (minus 1) (pos 86_399)
+  -- "*K: Key -1 is at day -1, second 86,399."; by request 1 it "reads day -1, second 86,399, drum 7 at offset 0"
+  pub times : fromKey (minus 1) (pos 0) ≡ timeIs (minus 1) (pos 86_399) (pos 7)

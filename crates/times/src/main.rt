@@ -1,6 +1,6 @@
 // A table of due times: reads questions from standard input, a line each, and writes each line with its answer.
-// `key DAY SECOND OFFSET` asks for a key, `time KEY OFFSET` for a local time; lines that are empty or begin with # are
-// copied. All that matters is in the crate `due`; this program only reads and writes numbers, and nothing else relies on it.
+// `key DAY SECOND OFFSET DRUM` asks for a key, `time KEY OFFSET` for a local time and its drum; lines that are empty or
+// begin with # are copied. All that matters is in the crate `due`; this program only reads and writes numbers, and nothing else relies on it.
 mod text;
 
 ghost use lib.ListN.{length};
@@ -14,19 +14,24 @@ use input::lines::Reader;
 use output::say;
 use text::Asked;
 
+// Bytes that are kept of a line: the longest question, of four numbers, has 87.
+const LINE: usize = 96;
+
 fn show_key(a: KeyAnswer) {
     match a {
-        KeyAnswer::At(key) => say::signed(key),
+        KeyAnswer::At(key) => say::signed(key.0),
         KeyAnswer::BadTime => say::text(b"refused 6"),
     }
 }
 
 fn show_time(a: TimeAnswer) {
     match a {
-        TimeAnswer::At(t) => {
-            say::signed(t.day);
+        TimeAnswer::At(t, drum) => {
+            say::signed(t.day.0);
             say::text(b" ");
-            say::signed(t.second);
+            say::signed(t.second.0);
+            say::text(b" ");
+            say::signed(drum.0);
         }
         TimeAnswer::BadTime => say::text(b"refused 6"),
     }
@@ -40,7 +45,7 @@ fn answer(line: &[u8]) {
     }
     say::text(b" -> ");
     match text::question(line) {
-        Asked::Key(day, second, offset) => show_key(due::key_of(day, second, offset)),
+        Asked::Key(time, offset, drum) => show_key(due::key_of(time, offset, drum)),
         Asked::Time(key, offset) => show_time(due::time_of(key, offset)),
         Asked::Nothing => say::text(b"no question"),
     }
@@ -79,6 +84,6 @@ fn answer_all(part: &mut [u8; PART], line: &mut [u8]) {
 
 fn main() {
     let mut part = io::large_buffer();
-    let mut line = [0u8; 80];
+    let mut line = [0u8; LINE];
     answer_all(&mut part, &mut line);
 }

@@ -1,11 +1,17 @@
 // Questions as text. Nothing here is promised beyond that every call is safe and ends: the program's tests
 // compare what it makes of its input with another implementation.
+use due::Day;
+use due::Drum;
+use due::Offset;
+use due::Second;
+use due::Time;
+use handle::Key;
 use input::fields::KeyField;
 use input::fields::key_field;
 
 pub enum Asked {
-    Key(i64, i64, i64),
-    Time(i64, i64),
+    Key(Time, Offset, Drum),
+    Time(Key, Offset),
     Nothing,
 }
 
@@ -38,11 +44,18 @@ fn key_asked(s: &[u8]) -> Asked {
     let KeyField::Is(second, b) = field_at(s, a) else {
         return Asked::Nothing;
     };
-    let KeyField::Is(offset, end) = field_at(s, b) else {
+    let KeyField::Is(offset, c) = field_at(s, b) else {
         return Asked::Nothing;
     };
+    let KeyField::Is(drum, end) = field_at(s, c) else {
+        return Asked::Nothing;
+    };
+    let time = Time {
+        day: Day(day.0),
+        second: Second(second.0),
+    };
     if end == s.len() {
-        Asked::Key(day.0, second.0, offset.0)
+        Asked::Key(time, Offset(offset.0), Drum(drum.0))
     } else {
         Asked::Nothing
     }
@@ -56,7 +69,7 @@ fn time_asked(s: &[u8]) -> Asked {
         return Asked::Nothing;
     };
     if end == s.len() {
-        Asked::Time(key.0, offset.0)
+        Asked::Time(key, Offset(offset.0))
     } else {
         Asked::Nothing
     }

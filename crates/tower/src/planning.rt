@@ -1,6 +1,10 @@
 // Laying out and planning: each call is told in one line, what was asked for and what the queue answered.
 use crate::clock;
+use crate::clock::OnDrum;
+use due::Day;
 use due::KeyAnswer;
+use due::Offset;
+use due::Time;
 use handle::Handle;
 use handle::Inserted;
 use handle::Key;
@@ -34,25 +38,32 @@ pub fn lay(s: &mut [u64], slots: u64, top: u64) {
 }
 
 // Plans a strike by its time.
-pub fn plan(s: &mut [u64], second: i64, strokes: u64) -> Handle {
-    plan_so(s, Way::ByTime, second, strokes)
+pub fn plan(s: &mut [u64], at: OnDrum, strokes: u64) -> Handle {
+    plan_so(s, Way::ByTime, at, strokes)
 }
 
 // Plans a strike. Answers its handle, or one that names no strike where the queue refused.
-pub fn plan_so(s: &mut [u64], way: Way, second: i64, strokes: u64) -> Handle {
-    asked(way, second, strokes);
-    let answer = due::key_of(clock::DAY, second, clock::OFFSET);
-    match answer {
-        KeyAnswer::At(k) => told(place(s, way, Key(k), strokes)),
+pub fn plan_so(s: &mut [u64], way: Way, at: OnDrum, strokes: u64) -> Handle {
+    asked(way, at, strokes);
+    match key_of(at) {
+        KeyAnswer::At(k) => told(place(s, way, k, strokes)),
         KeyAnswer::BadTime => told(Inserted::Refused(Refusal::BadTime)),
     }
 }
 
-fn asked(way: Way, second: i64, strokes: u64) {
+// The key of a time of this evening's day.
+fn key_of(at: OnDrum) -> KeyAnswer {
+    let second = at.second;
+    let time = Time {
+        day: Day(clock::DAY),
+        second,
+    };
+    due::key_of(time, Offset(clock::OFFSET), at.drum)
+}
+
+fn asked(way: Way, at: OnDrum, strokes: u64) {
     say::text(b"  plan ");
-    clock::seconds(second);
-    say::text(b", ");
-    say::counted(strokes, b"stroke");
+    clock::strokes(at, strokes);
     match way {
         Way::ByTime => {}
         Way::Alone => say::text(b", as the only strike"),
