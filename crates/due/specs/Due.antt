@@ -117,7 +117,7 @@ drumOf key = pos (floorMod key drums)
 unfoldable pub momentIn : ℤ → ℤ
 momentIn key = floorDiv key drums
 
--- "Back: the day is the floor of (key + offset) / 86,400, the second is the remainder"; for the key stands the moment
+-- "Back: the day is the floor of (key + offset) / 86,400, the second is the remainder", with the moment in the key's place
 unfoldable pub dayOf : ℤ → ℤ → ℤ
 dayOf moment offset = floorDiv (moment +ℤ offset) secondsADay
 
