@@ -2,7 +2,7 @@
 -- and a drum have and when they are refused, which time and drum a key has and when it is refused, that the two undo
 -- each other, and that keys are ordered by time and then by drum. A reader may rely on each `pub` statement below.
 -- Assumes nothing.
-use mathlib.Core.Path.{_≡_, refl, sym, ap, ap₂, _∙_}
+use mathlib.Core.Path.{_≡_, refl, sym, ap, _∙_}
 use mathlib.Core.Bool.{Bool, true, false, _&&_}
 use mathlib.Core.Logic.{_↔_}
 use Prim.Native.Nat.{ℕ}

@@ -78,10 +78,7 @@ range-is c =
     let whole : SFits w64 (a .floored .result .whole) = search needs in
     rw (toZ-ofZ first, toZ-ofZ last, toZ-ofZ whole, first-is f, last-is l, at-is a .0) at (c .within2 .ensures)
 
-abbrev in5 : tie.Then2 → tie.Start
-in5 c = in4 (c .before)
-
-day-no : (c : tie.Then2) → goodDay (dayOf (momentIn (key (in5 c))) (offset (in5 c))) ≡ false
+day-no : (c : tie.Then2) → goodDay (dayOf (momentIn (key (in4 (c .before)))) (offset (in4 (c .before)))) ≡ false
 day-no c = day-range _ _ ∙ sym (range-is (c .before)) ∙ not-true _ (c .if2 .taken)
 
 range-yes : (c : tie.Else2) → within (momentOf dayLow secondLow (offset (in4 (c .before)))) (momentOf dayHigh secondHigh (offset (in4 (c .before)))) (momentIn (key (in4 (c .before)))) ≡ true
