@@ -1,6 +1,7 @@
 -- Division toward the floor, for document 01's "the day is the floor of (key + offset) / 86,400, the second is the
--- remainder". A reader may rely on `Floored`, which says what floor and remainder are; proofs/Floors shows that
--- `floorDiv` and `floorMod` have that property and that nothing else has it. Assumes nothing.
+-- remainder" and request 1's "the drum is the remainder by 8, never negative, and the rest is the floor". A reader may
+-- rely on `Floored`, which says what floor and remainder are; proofs/Floors shows that `floorDiv` and `floorMod` have
+-- that property and that nothing else has it. Assumes nothing.
 use mathlib.Core.Path.{_≡_}
 use Prim.Native.Nat.{ℕ, suc, _-_, _/_, _%_, _<_}
 use lib.IntN.{ℤ, pos, negsuc, _+ℤ_, _*ℤ_}

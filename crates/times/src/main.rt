@@ -1,6 +1,7 @@
 // A table of due times: reads questions from standard input, a line each, and writes each line with its answer.
 // `key DAY SECOND OFFSET DRUM` asks for a key, `time KEY OFFSET` for a local time and its drum; lines that are empty or
-// begin with # are copied. All that matters is in the crate `due`; this program only reads and writes numbers, and nothing else relies on it.
+// begin with # are copied. All that matters is in the crate `due`; this program only reads and writes numbers, and
+// nothing else relies on it.
 mod text;
 
 ghost use lib.ListN.{length};
