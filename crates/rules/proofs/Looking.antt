@@ -144,7 +144,7 @@ module _ (q : Queue) (s : Sound q) (a : List Entry) (x : Entry) (b : List Entry)
   unfolding own stands_at Lists.last
   prev-ends e = prev-is (handle_of x) q s (own q [] x b e)
 
--- stand_first and stand_last, on any queue
+-- first and last, on any queue
 module _ (q : Queue) (a : List Entry) (x : Entry) where
   pub first-stands : entries q ≡ x ∷ a → stand_first q ≡ stands (handle_of x)
   unfolding stand_first stands_at Lists.first
