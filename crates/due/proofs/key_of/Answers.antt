@@ -3,7 +3,7 @@
 use Rattle.std.proofs.Common.{◌≡◌, true, sym, ap, ◌∙◌, rules, SFits}
 use Rattle.std.specs.Int.{w64}
 use Rattle.std.proofs.lemmas.Int.{to_z-of_z}
-use Rattle.due.specs.Due.{good_day, good_second, good_offset, good_drum, GoodTime, GoodDrum, moment_of, key_is, key_of, to_key}
+use Rattle.due.specs.Due.{good_day, good_second, good_offset, good_drum, moment_of, key_is, key_of, to_key}
 use Rattle.due.proofs.Ranges.{within_fact, good_fact, both}
 use Rattle.due.proofs.NoOverflow.{eighths_fit, key_fits}
 use Rattle.due.proofs.key_of.Goals as goal

@@ -1,10 +1,9 @@
 -- The key's moment is tested against the first and the last one of the days in range, which is the definition's test of the
 -- day (`day-range` of proofs/Moments). Key and moment are taken apart by `floored`.
-use Rattle.std.proofs.Common.{◌≡◌, Bool, true, false, sym, ◌∙◌, rules, SFits, ℤ, ◌+ℤ◌, to_z, of_z}
+use Rattle.std.proofs.Common.{◌≡◌, true, sym, ◌∙◌, rules, SFits}
 use Rattle.std.specs.Int.{w64}
 use Rattle.std.proofs.lemmas.Int.{to_z-of_z}
-use Rattle.due.specs.Floor.{floor_div, floor_mod}
-use Rattle.due.specs.Due.{good_day, good_offset, within, InBounds, offset_low, offset_high, moment_of, day_low, day_high, second_low, second_high, moment_in, drum_of, day_of, second_of, time_is, from_key}
+use Rattle.due.specs.Due.{good_offset, within, moment_of, day_low, day_high, second_low, second_high, moment_in, drum_of, day_of, second_of, from_key}
 use Rattle.due.proofs.Ranges.{within_fact}
 use Rattle.due.proofs.Moments.{day-range}
 use Rattle.due.proofs.NoOverflow.{ends-good, local_fits}
