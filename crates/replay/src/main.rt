@@ -1,5 +1,6 @@
 // Reads a script on standard input and writes the queue's answers on standard output, a line for a line.
 // The script language is that of paired runs: the same script gives the same bytes from the Rust side.
+#![tactic(auto)]
 mod dumping;
 
 ghost use Rattle.std.specs.Prelude.{length};

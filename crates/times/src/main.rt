@@ -2,6 +2,7 @@
 // `key DAY SECOND OFFSET DRUM` asks for a key, `time KEY OFFSET` for a local time and its drum; lines that are empty or
 // begin with # are copied. All that matters is in the crate `due`; this program only reads and writes numbers, and
 // nothing else relies on it.
+#![tactic(auto)]
 mod text;
 
 ghost use Rattle.std.specs.Prelude.{length};
