@@ -182,6 +182,7 @@ module _ (key : ℕ) (q : Queue) (s : Sound q) where
   search-there (equal_at h n) f g = (h, n, refl)
   search-there (beside h d n) f g = absurd (f.0 g)
   search-there (no_entry n) f g = absurd (rw f.1 at g.1)
+  search-there (not_found n) f g = absurd f
 
   pub search-never : (n : ℕ) → ¬ (search_for key q ≡ not_found n)
   search-never n e = subst (λ (a : SearchAnswer). SearchAnswers key q a) e search-answers
