@@ -3,8 +3,6 @@
 // say; nothing overflows on any numbers. Each field is a type of its own, so that none can be passed for another.
 #![tactic(auto)]
 
-#![tactic(auto)]
-
 ghost use Rattle.std.specs.Prelude.{◌≡◌, ◌<◌, pos, ◌+ℤ◌, ◌-ℤ◌, ◌*ℤ◌};
 ghost use Rattle.std.specs.Int.{w64};
 ghost use Rattle.std.proofs.Common.{SFits};

@@ -1,3 +1,4 @@
+-- The answer is the model's, and the model decides (Decided).
 use Rattle.arena.proofs.SlotReads.{passes-room}
 use Rattle.sound.proofs.Decided.{decides}
 use Rattle.sound.proofs.TestReads.{sound_asks, sound-fails}

@@ -1,3 +1,4 @@
+-- k words are left, and what the model says of them is what it says of all ten.
 use mathlib.Core.Path.{◌≡◌}
 use Prim.Native.Nat.{◌≤◌}
 use Rattle.sound.specs.inner.Check.{unused_test}

@@ -1,3 +1,4 @@
+-- i slots and places are left, and what the model says of them is what it says of all.
 use mathlib.Core.Path.{◌≡◌}
 use Prim.Native.Nat.{◌≤◌}
 use Rattle.sound.specs.inner.Slots.{slots_test}

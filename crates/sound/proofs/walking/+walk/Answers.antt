@@ -1,3 +1,4 @@
+-- Each way out is the model's (CheckTurns); a node that passes its test is a slot, so its links can be read.
 use Rattle.sound.proofs.CheckTurns.{node-low, walk-tip, walk-spent, walk_refused, walk_broken, walk-apart, walk_on}
 use Rattle.sound.proofs.walking.+walk.Goals as goal
 
