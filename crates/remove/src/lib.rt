@@ -2,6 +2,7 @@
 // Each function equals its model on any words; where a link or a rank is impossible on a sound store, the answer is NotSound.
 // From the Rust: ord/remove.rs.
 #![tactic(auto)]
+
 pub mod lifting;
 pub mod reading;
 pub mod removing;

@@ -20,7 +20,7 @@ pub enum Climbed {
 }
 
 // A node as it is to be written: its parent or no slot, its child on a side that is said beside it, its other child, its rank.
-#[derive(Drop)]
+#[derive(Clone, Copy)]
 pub struct Node {
     pub back: u64,
     pub near: u64,
