@@ -1,6 +1,7 @@
 // What the queue's callers hold: slots, generations, keys, handles, sides and refusals, and the answers of the calls.
 // Each is a type of its own, so that none can be passed for another (document 01, "What a queue holds").
 // From the Rust: fundamental/ptr.rs (Ptr, its index and its generation) and fundamental/errors.rs.
+#![tactic(auto)]
 ghost use Rattle.std.specs.Prelude.{◌≡◌};
 ghost use Rattle.handle.specs.Numbers.{no_slot, first_generation, refusal_number};
 

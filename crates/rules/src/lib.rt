@@ -1,1 +1,2 @@
 // The queue of document 01, without a store: definitions in specs/, theorems in proofs/. No code.
+#![tactic(auto)]

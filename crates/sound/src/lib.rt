@@ -1,6 +1,7 @@
 // The check: whether a store is sound, for any words at all. It changes nothing.
 // First the header, then each slot and each place of the free stack by single words, then tree and chain by one walk from the root.
 // From the Rust: _check_invariants of ord/find.rs, with the rules that document 01 adds.
+#![tactic(auto)]
 ghost use Rattle.std.specs.Prelude.{◌≡◌, ◌<◌};
 ghost use Rattle.arena.specs.Words.{Long, Room};
 ghost use Rattle.sound.specs.inner.Check.{top_test, unused_test, rules_test};

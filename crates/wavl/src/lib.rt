@@ -1,1 +1,2 @@
 // No code: this crate is the theory of the ranked tree, in specs/ and proofs/.
+#![tactic(auto)]
