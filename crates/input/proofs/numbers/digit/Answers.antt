@@ -1,4 +1,3 @@
-use Rattle.std.proofs.Common.{rules}
 use Rattle.input.proofs.Reading.{digit_is}
 use Rattle.arena.proofs.Paths.{paths}
 use Rattle.input.specs.inner.Numbers.{digit_of}
