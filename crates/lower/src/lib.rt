@@ -2,5 +2,6 @@
 // Each function equals its model on any words; where a link or a rank is impossible on a sound store, the answer says so.
 // From the Rust: the second loop of ord/remove.rs.
 #![tactic(auto)]
+
 pub mod climbing;
 pub mod turns;

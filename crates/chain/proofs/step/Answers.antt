@@ -3,4 +3,4 @@ use Rattle.chain.proofs.StepReads.{step-reads}
 use Rattle.chain.proofs.step.Goals as goal
 
 pub returns : goal.returns
-returns c = record { value = step-reads _ _ _ _ _ _ c.field-q.ensures c.follow.ensures.0; stepped_in = search rules }
+returns c = record { value = step-reads _ _ _ _ _ _ c.field-q.ensures c.follow.ensures.value; stepped_in = search rules }

@@ -44,5 +44,4 @@ returns-then-key-k c = record { value = search equal; found_in = omega arith }
 
 pub returns-then-q-eq-NO_SLOT : goal.returns-then-q-eq-NO_SLOT
 unfolding budget
-returns-then-q-eq-NO_SLOT c = let c₁ = c in let c₂ = c₁.before in let c₃ = c₂.before in let c₄ = c₃.before in let c₅ = c₄.before in let c₆ = c₅.before in
-    (beside _ _ _ _ _ _ c₆.before.loop.invariant.1 c₆.if2.false c₅.if3.false _ c₄.field.ensures c₃.if4.false _ _ c₂.side-of.ensures.0 c₁.field2.ensures c.if-q-eq-NO_SLOT.true, omega arith)
+returns-then-q-eq-NO_SLOT c = record { value = beside _ _ _ _ _ _ c.loop-n.invariant.1 c.if-n-ge-BUDGET.false c.if-cap-p.false _ c.field-key.ensures c.if-key-k.false _ _ c.side_of-d.ensures.value c.field-q.ensures c.if-q-eq-NO_SLOT.true; found_in = omega arith }

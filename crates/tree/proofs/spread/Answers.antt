@@ -3,8 +3,4 @@ use Rattle.tree.proofs.spread.Goals as goal
 
 pub returns : goal.returns
 unfolding spread_with
-returns c = let c₄ = c in
-    let c₃ = c₄.before.before.before.before in
-    let c₂ = c₃.before.before.before.before in
-    let c₁ = c₂.before.before.before.before in
-    rw (c₄.put-node2.ensures, c₃.put-node.ensures, c₂.put-back2.ensures, c₁.put_back.ensures)
+returns c = rw (c.put_node-2.ensures, c.put_node.ensures, c.put_back-2.ensures, c.put_back.ensures)
