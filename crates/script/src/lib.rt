@@ -2,6 +2,7 @@
 // stand for handles. A reader may rely on the models in specs/ and those of crate `input`: fields, numbers and their ranges, exactly, for
 // any bytes.
 #![tactic(auto)]
+
 pub mod command;
 pub mod sides;
 pub mod table;
