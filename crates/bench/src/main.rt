@@ -1,5 +1,7 @@
 // Document 01's "Runs on the bench" that are not proved but run: what laying out refuses, and the whole listing of run A.
 // Then its slots, taken and freed to the last. The stored output beside src/ is written from document 01.
+#![tactic(auto)]
+
 mod slots;
 
 use arena::words::{FIELDS, STORE};

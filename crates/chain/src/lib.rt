@@ -1,6 +1,8 @@
 // The chain: each live slot knows its neighbours PREV and NEXT, and the header knows both ends, FIRST and LAST.
 // Before and after are one piece of code over a side d: PREV + d is the neighbour on side d, NEXT - d the other, FIRST + d the end.
 // From the Rust: chain/links.rs and chain/impl_chain_arena_trait.rs; the ends, which insert.rs and remove.rs move there, move here.
+#![tactic(auto)]
+
 ghost use Rattle.std.specs.Prelude.{◌≡◌, ◌<◌, ◌≤◌};
 ghost use Rattle.arena.specs.Words.{Room};
 ghost use Rattle.chain.specs.inner.Links.{hooked, link_alone, link_beside, unlink_slot};

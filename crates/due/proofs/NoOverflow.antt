@@ -1,6 +1,6 @@
 -- A moment of a time in its ranges is worked out with no overflow, and so is the local time of a moment whose day is in
 -- range. Assumes nothing.
-use Prim.Native.Nat.{◌+◌, ◌*◌, ◌≤◌}
+use Prim.Native.Nat.{◌≤◌}
 use native.Mathlib.Omega.{arith}
 use lib.IntN.{ℤ, pos, ◌+ℤ◌, ◌-ℤ◌, ◌*ℤ◌}
 use lib.Dec.{T}

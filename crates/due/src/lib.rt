@@ -1,6 +1,7 @@
 // Due times (document 01, "Due times", as request 1 changes it): the key of a local time and a drum, and back.
 // A reader may rely on `key_of` and `time_of` giving, for every input, what `to_key` and `from_key` of specs/Due
 // say; nothing overflows on any numbers. Each field is a type of its own, so that none can be passed for another.
+#![tactic(auto)]
 
 ghost use Rattle.std.specs.Prelude.{◌≡◌, ◌<◌, pos, ◌+ℤ◌, ◌-ℤ◌, ◌*ℤ◌};
 ghost use Rattle.std.specs.Int.{w64};

@@ -1,5 +1,7 @@
 // An evening of strikes, for a clockmaker to read: an hour is planned, the sexton has one strike cancelled, the rest are struck.
 // What must be refused is tried on the way. Every line tells what a call answered.
+#![tactic(auto)]
+
 mod bell;
 mod hour;
 

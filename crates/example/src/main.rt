@@ -1,4 +1,6 @@
 // The queue in a program of one's own, to be copied: `handle` has the kinds and the answers, `queue` the calls.
+#![tactic(auto)]
+
 use handle::{Inserted, Key, Removed};
 use queue::cursor::{Cursor, Moved};
 use queue::looking::Searched;

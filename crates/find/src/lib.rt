@@ -1,6 +1,8 @@
 // The search: from the root, left if less and right if greater, to an equal key or to a missing child.
 // It leaves its loop with the answer in hand: node, side, and how many nodes were looked at.
 // From the Rust: find_similar_key of ord/find.rs. Two things differ: the count, and that the loop ends on any words, after BUDGET nodes.
+#![tactic(auto)]
+
 ghost use Rattle.std.specs.Prelude.{◌≡◌, ◌<◌, ◌≤◌};
 ghost use Rattle.arena.specs.Words.{Room};
 ghost use Rattle.find.specs.inner.Seeking.{side_of_key, seek_model, FoundIn};

@@ -1,6 +1,7 @@
 // What the queue's callers hold: slots, generations, keys, handles, sides and refusals, and the answers of the calls.
 // Each is a type of its own, so that none can be passed for another (document 01, "What a queue holds").
 // From the Rust: fundamental/ptr.rs (Ptr, its index and its generation) and fundamental/errors.rs.
+#![tactic(auto)]
 ghost use Rattle.std.specs.Prelude.{◌≡◌};
 ghost use Rattle.handle.specs.Numbers.{no_slot, first_generation, refusal_number};
 
@@ -11,26 +12,26 @@ pub const LIMIT: u64 = 1024;
 pub const TOP_LIMIT: u64 = 4294967295;
 
 // A place for one entry in the store: 0 and up, below the capacity.
-#[derive(Drop)]
+#[derive(Clone, Copy)]
 pub struct Slot(pub u64);
 
 // Which life of its slot an entry is: 1 at first, one more after each removal.
-#[derive(Drop)]
+#[derive(Clone, Copy)]
 pub struct Generation(pub u64);
 
 // Where an entry stands in the queue's order: any signed 64-bit number.
-#[derive(Drop)]
+#[derive(Clone, Copy)]
 pub struct Key(pub i64);
 
 // What names one entry for good: its slot, and the generation of the slot that it lives in.
-#[derive(Drop)]
+#[derive(Clone, Copy)]
 pub struct Handle {
     pub slot: Slot,
     pub generation: Generation,
 }
 
 // The side of an entry on which a key lies.
-#[derive(Drop)]
+#[derive(Clone, Copy)]
 pub enum Side {
     Less,
     Equal,
@@ -38,7 +39,7 @@ pub enum Side {
 }
 
 // Why a call says no. `refusal_number` of specs/Numbers.antt gives document 01's number of each.
-#[derive(Drop)]
+#[derive(Clone, Copy)]
 pub enum Refusal {
     NotWithinCapacity,
     FailedOrdRequirement,
@@ -49,27 +50,27 @@ pub enum Refusal {
 }
 
 // What an entry holds.
-#[derive(Drop)]
+#[derive(Clone, Copy)]
 pub struct Entry {
     pub key: Key,
     pub value: u64,
 }
 
 // How many numbers a capacity takes, or 4.
-#[derive(Drop)]
+#[derive(Clone, Copy)]
 pub enum Needed {
     Numbers(u64),
     Refused(Refusal),
 }
 
-#[derive(Drop)]
+#[derive(Clone, Copy)]
 pub enum LaidOut {
     Done,
     Refused(Refusal),
 }
 
 // "Any insertion answers New or Replacing with the handle, and the old value if replacing."
-#[derive(Drop)]
+#[derive(Clone, Copy)]
 pub enum Inserted {
     New(Handle),
     Replacing(Handle, u64),
@@ -77,7 +78,7 @@ pub enum Inserted {
 }
 
 // What an insertion would answer next: "New or Replacing with the handle, or the refusal".
-#[derive(Drop)]
+#[derive(Clone, Copy)]
 pub enum Ahead {
     New(Handle),
     Replacing(Handle),
@@ -85,7 +86,7 @@ pub enum Ahead {
 }
 
 // The removed entry; the same with the note that its slot had the top generation and is retired; or why not.
-#[derive(Drop)]
+#[derive(Clone, Copy)]
 pub enum Removed {
     Entry(Entry),
     GenerationOverflow(Entry),
@@ -93,7 +94,7 @@ pub enum Removed {
 }
 
 // "Reading and removal answer key and value."
-#[derive(Drop)]
+#[derive(Clone, Copy)]
 pub enum Reading {
     Entry(Entry),
     Refused(Refusal),

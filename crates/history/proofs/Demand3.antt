@@ -18,7 +18,7 @@ use Rattle.rules.specs.Insert.{manual, insert}
 use Rattle.rules.specs.Look.{read, search_for, stand_at}
 use Rattle.rules.specs.Sound.{Sound}
 use Rattle.rules.specs.Table.{ReadAnswers, StandAnswers, SearchAnswers}
-use Rattle.rules.specs.Calls.{Call, Event, History, answer, run_by, run}
+use Rattle.rules.specs.Calls.{Call, History, answer, run_by, run}
 use Rattle.rules.proofs.Places.{slot_unique}
 use Rattle.rules.proofs.Removing.{live-once}
 use Rattle.rules.proofs.Told.{read-answers, stand_answers, target-live, names-handle}

@@ -15,7 +15,7 @@ use Rattle.wavl.proofs.Lists.{all_map, all_in, all_of, in_slots_lem}
 use Rattle.rules.specs.Queue.{Handle, handle_of, entry_with, Queue, fresh_from, fresh, entries, HasEntry, Live}
 use Rattle.rules.specs.Answers.{Note, no_note, generation_overflow}
 use Rattle.rules.specs.Sound.{Sound}
-use Rattle.rules.specs.inner.Changes.{Adds, Swaps, Takes}
+use Rattle.rules.specs.inner.Changes.{Adds}
 use Rattle.rules.specs.inner.Handles.{FreedBy}
 use Rattle.rules.specs.Calls.{Call, answer, run_by, run}
 use Rattle.rules.proofs.Kept.{fresh-sound}

@@ -1,6 +1,6 @@
 -- "Each refusal returns its number alone and changes nothing"; search, reading, stepping, look-ahead and check change nothing either.
 -- A reader may rely on changes_nothing for every call and every queue, sound or not: an answer that tells nothing has changed nothing.
-use mathlib.Core.Path.{◌≡◌, refl, sym}
+use mathlib.Core.Path.{◌≡◌, refl}
 use mathlib.Core.Bool.{Bool, true, false}
 use Prim.Native.Nat.{ℕ}
 use native.Mathlib.Omega.{arith}

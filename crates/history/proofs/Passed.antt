@@ -6,9 +6,9 @@ use mathlib.Core.List.{List, [], ◌∷◌, ◌++◌}
 use Prim.Native.Nat.{ℕ, suc, ◌+◌, ◌≤◌, ◌<◌}
 use native.Mathlib.Decide.{dec_lt}
 use native.Mathlib.Omega.{arith}
-use Rattle.wavl.specs.Lists.{All, In, Differ}
+use Rattle.wavl.specs.Lists.{In, Differ}
 use Rattle.wavl.specs.Entry.{Entry, revalued, slots}
-use Rattle.wavl.proofs.Lists.{all_map, in_middle, in_slots_lem, pairwise_across}
+use Rattle.wavl.proofs.Lists.{in_middle, in_slots_lem, pairwise_across}
 use Rattle.rules.specs.Queue.{Handle, handle, handle_of, entry_with, Queue, entries, HasEntry, Names, Live}
 use Rattle.rules.specs.Remove.{freed}
 use Rattle.rules.specs.Sound.{free_slots, Sound}
@@ -17,7 +17,7 @@ use Rattle.rules.specs.inner.Handles.{HandleGone}
 use Rattle.rules.proofs.Lists.{in_put, in_drop}
 use Rattle.rules.proofs.Places.{slot_unique}
 use Rattle.rules.proofs.Removing.{live-once}
-use Rattle.rules.proofs.Handles.{adds-handle, takes-handle}
+use Rattle.rules.proofs.Handles.{takes-handle}
 
 -- the slot of a given handle is now at its generation or above (n = 0), or above it (n = 1); a free one is above it in any case
 pub record Aged (n : ℕ) (q : Queue) (g : Handle) : Type 0 where

@@ -6,7 +6,7 @@ use Prim.Native.Nat.{ℕ}
 use Rattle.wavl.specs.Lists.{All}
 use Rattle.wavl.specs.Entry.{Entry, revalued, slots}
 use Rattle.wavl.proofs.Lists.{all_in, all_of, all_left, all_right, in_slots_lem, slots_append}
-use Rattle.rules.specs.Queue.{Handle, entry_with, Queue, entries, Names}
+use Rattle.rules.specs.Queue.{Handle, Queue, entries, Names}
 use Rattle.rules.specs.Sound.{Sound}
 use Rattle.rules.specs.inner.Changes.{Swaps, Takes}
 use Rattle.rules.proofs.Lists.{once-differ, slots-put}

@@ -7,7 +7,7 @@ use Rattle.wavl.specs.Tree.{inorder}
 use Rattle.wavl.specs.Ranks.{Ranked}
 use Rattle.wavl.specs.Search.{path}
 use Rattle.rules.specs.Queue.{Handle, handle_of, Queue, entries, HasEntry, Names, Live}
-use Rattle.rules.specs.Answers.{Where, not_laid, not_inserted, would_refuse, not_removed, Read, reads, not_read, Stepped, stands, at_end, not_stepped, SearchAnswer, equal_at, beside, no_entry, not_found, failed_ord_requirement, invalid_ptr}
+use Rattle.rules.specs.Answers.{Where, not_inserted, would_refuse, not_removed, reads, not_read, stands, not_stepped, SearchAnswer, equal_at, beside, no_entry, not_found, failed_ord_requirement, invalid_ptr}
 use Rattle.rules.specs.Insert.{manual, insert, foresee}
 use Rattle.rules.specs.Remove.{remove}
 use Rattle.rules.specs.Look.{read, search_for, stand_at, next, prev}

@@ -1,1 +1,2 @@
 // Demand 3 of the store: definitions in specs/, the theorem in proofs/. No code.
+#![tactic(auto)]

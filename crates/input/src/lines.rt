@@ -3,7 +3,7 @@
 ghost use Rattle.std.specs.Prelude.{length};
 ghost use Rattle.input.specs.inner.Lines.{LineFits};
 
-use libc::STDIN_FILENO;
+use std::io::{Read as Reads, Stdin};
 
 // How many bytes are read at once.
 pub const PART: usize = 65536;
@@ -46,30 +46,14 @@ impl Reader {
 }
 
 // On to the end of the line or of the part, or to the next part.
-pub fn next(part: &mut [u8; PART], r: Reader, line: &mut [u8]) -> Read
+pub fn next(input: Stdin, part: &mut [u8; PART], r: Reader, line: &mut [u8]) -> Read
     ensures { LineFits result.line (length line.new) }
 {
     if r.at < r.end {
         return scan(part, r, line);
     }
     if 0 < r.end {
-        let got = libc::read(STDIN_FILENO, part);
-        let end = io::count(got, part);
-        let reader = Reader {
-            at: 0,
-            end,
-            held: r.held,
-        };
-        if got < 0 {
-            return Read {
-                line: Line::Failed,
-                reader,
-            };
-        }
-        return Read {
-            line: Line::Begun,
-            reader,
-        };
+        return read_part(input, part, r.held);
     }
     if 0 < r.held {
         return whole(r, line.len());
@@ -77,6 +61,27 @@ pub fn next(part: &mut [u8; PART], r: Reader, line: &mut [u8]) -> Read
     Read {
         line: Line::End,
         reader: r,
+    }
+}
+
+// The next part. After a read that failed the part is empty, and so the last.
+fn read_part(input: Stdin, part: &mut [u8; PART], held: usize) -> Read
+    ensures { LineFits result.line 0 }
+{
+    let mut source = input;
+    match source.read(part) {
+        Ok(end) => Read {
+            line: Line::Begun,
+            reader: Reader { at: 0, end, held },
+        },
+        Err(_) => Read {
+            line: Line::Failed,
+            reader: Reader {
+                at: 0,
+                end: 0,
+                held,
+            },
+        },
     }
 }
 

@@ -1,5 +1,7 @@
 // Document 01's listing: `live L free F retired R`, then a line for each entry in order. The cursor walks the chain; ranks are
 // the store's words. It is written into a buffer, or at once on standard output.
+#![tactic(auto)]
+
 pub mod walking;
 
 ghost use Rattle.std.specs.Prelude.{◌<◌};

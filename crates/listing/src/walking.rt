@@ -6,7 +6,7 @@ use handle::Handle;
 use queue::cursor::{Cursor, Moved};
 
 // Where the cursor has come to, and how many entries may still be handed out.
-#[derive(Drop)]
+#[derive(Clone, Copy)]
 pub struct Walk {
     pub moved: Moved,
     pub left: u64,

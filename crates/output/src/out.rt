@@ -2,7 +2,11 @@
 // `at` is how much of the buffer is in use; every function here is safe at any `at`.
 use crate::signs;
 use handle::{Entry, Key};
-use libc::{STDERR_FILENO, STDOUT_FILENO};
+
+// The descriptors that a program writes to.
+pub const STANDARD_OUTPUT: i32 = 1;
+
+pub const STANDARD_ERROR: i32 = 2;
 
 // How many bytes are collected before a write.
 pub const ROOM: usize = 65536;
@@ -10,8 +14,8 @@ pub const ROOM: usize = 65536;
 // What the system does not take is told on standard error: nothing else can be done.
 fn write_first(all: &[u8], n: usize) {
     if n <= all.len() {
-        if !io::write_all(STDOUT_FILENO, &all[..n]) {
-            io::write_all(STDERR_FILENO, b"could not write all of the output\n");
+        if !io::write_all(STANDARD_OUTPUT, &all[..n]) {
+            io::write_all(STANDARD_ERROR, b"could not write all of the output\n");
         }
     }
 }

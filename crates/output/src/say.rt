@@ -1,15 +1,15 @@
 // Text, numbers and refusals at once on standard output, for programs that write little.
 // What the system does not take is lost: nothing else can be done about it here.
+use crate::out::STANDARD_OUTPUT;
 use crate::signs;
 use handle::Refusal;
-use libc::STDOUT_FILENO;
 
 pub fn text(t: &[u8]) {
-    io::write_all(STDOUT_FILENO, t);
+    io::write_all(STANDARD_OUTPUT, t);
 }
 
 pub fn number(n: u64) {
-    io::print_decimal(STDOUT_FILENO, n);
+    io::print_decimal(STANDARD_OUTPUT, n);
 }
 
 // A number with its sign.

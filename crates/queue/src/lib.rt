@@ -1,6 +1,7 @@
 // The public calls of the queue, on a store of numbers that the caller lends. No call asks anything of its caller: each tests the
 // header first and answers 5 where it fails. Each call is equal to its model in specs/ on any words at all.
 // From the Rust: ord/simple_ord_arena.rs.
+#![tactic(auto)]
 pub mod cursor;
 pub mod looking;
 pub mod placing;

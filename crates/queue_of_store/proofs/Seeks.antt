@@ -1,5 +1,5 @@
 -- The search of the words on a store that holds a queue is the search of its tree, for every key; its budget is never met.
--- A reader may rely on: seek_is, the answer_at in slots; seek-means, the answer_at that crate `rules` gives.
+-- A reader may rely on: seek_is, the answer in slots; seek-means, the answer that crate `rules` gives.
 use Prim.Native.Nat.{ℕ, zero, suc, ◌+◌, ◌≤◌, ◌<◌}
 use mathlib.Core.Path.{◌≡◌, refl, sym, ap, ◌∙◌}
 use mathlib.Core.List.{List, [], ◌∷◌}
@@ -78,14 +78,14 @@ module _ (s : List ℕ) (cap k : ℕ) (few : cap ≤ no_slot) where
       let low : e.slot < cap = l.0.low in
       seek-root s cap k e.slot h few low ∙ seek-tree (fork a e r b) no_slot budget 0 [] tt l v x m refl
 
--- the answer_at in slots and numbers, for every key
+-- the answer in slots and numbers, for every key
 pub seek_is : {s : List ℕ} {q : Queue} → Holds s q → (k : ℕ) → seek_model s q.capacity k ≡ in_slots (answer_at (search k q.tree))
 seek_is {s} {q} h k =
     let x = ranked→ranks q.tree h.rule_2 in
     let r = under_budget q.tree x (size_few (sound_of h)) in
     seek-root-tree s q.capacity k (few-slots (words_of h)) q.tree h.rule_1.root h.rule_1.links h.live x (omega arith)
 
--- the answer_at that crate `rules` gives: the slot's generation is the entry's
+-- the answer that crate `rules` gives: the slot's generation is the entry's
 pub seek-means : {s : List ℕ} {q : Queue} → Holds s q → (k : ℕ) → found_means s q.capacity (seek_model s q.capacity k) ≡ search_for k q
 unfolding search_for found_in
 seek-means {s} {q} h k = rw (seek_is h k) (go (answer_at (search k q.tree)) (answer-right k q.tree h.rule_4))

@@ -1,7 +1,7 @@
 -- What writes leave of a way, and the write of a hook: a subtree replaced at any depth.
 -- A reader may rely on: grown, regrown and raised, with which a change of a tree in the words is a change of one subtree.
 use Prim.Native.Nat.{ℕ, ◌+◌, ◌-◌, ◌≤◌, ◌<◌}
-use mathlib.Core.Path.{◌≡◌, refl, sym, ◌∙◌}
+use mathlib.Core.Path.{◌≡◌, refl, sym, subst, ◌∙◌}
 use mathlib.Core.Logic.{inl, inr}
 use mathlib.Core.List.{List, [], ◌∷◌}
 use native.Mathlib.Omega.{arith}
@@ -76,7 +76,7 @@ module _ (s : List ℕ) (cap : ℕ) where
         let side : (j : ℕ) → j < cap → Has j u → SameLinks s t cap j =
         λ j l h. off j l (λ z. (apart x e r u d (distinct_in p (node d x e r u) D)).far (rw z at h)) in
         let root = head-put s cap e.slot f c low hf ROOT (omega arith) in
-        rw (child-at e.slot (number d) c low) (
+        subst (λ (v : List ℕ). LinksWay v cap (step d e r u ∷ p)) (sym (child-at e.slot (number d) c low)) (
           record {
             low = low;
             back_is = field_off s cap e.slot f c low hf e.slot BACK low (omega arith) (λ z. omega arith) ∙ w.0.back_is;

@@ -10,7 +10,7 @@ use arena::words::{BACK, LEFT, RANK, RIGHT};
 use tree::Node;
 
 // The slots of a restructure: n0 under n1 under n2, n3 above n2 or no slot, and s1, the other child of n2.
-#[derive(Drop)]
+#[derive(Clone, Copy)]
 pub struct Turn {
     pub n0: u64,
     pub n1: u64,

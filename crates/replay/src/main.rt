@@ -1,5 +1,7 @@
 // Reads a script on standard input and writes the queue's answers on standard output, a line for a line.
 // The script language is that of paired runs: the same script gives the same bytes from the Rust side.
+#![tactic(auto)]
+
 mod dumping;
 
 ghost use Rattle.std.specs.Prelude.{length};
@@ -11,12 +13,12 @@ use arena::words::STORE;
 use handle::Refusal;
 use input::lines;
 use input::lines::{Line, PART, Reader};
-use libc::STDERR_FILENO;
 use output::out;
-use output::out::ROOM;
+use output::out::{ROOM, STANDARD_ERROR};
 use script::command;
 use script::command::Command;
 use script::table::TABLE;
+use std::io::Stdin;
 
 // The longest line that is read.
 const LONGEST: usize = 128;
@@ -80,13 +82,14 @@ fn serve_line(
 
 fn tell_failed() {
     io::write_all(
-        STDERR_FILENO,
+        STANDARD_ERROR,
         b"replay: could not read the script to its end\n",
     );
 }
 
 // A proved loop has to end, and nothing says that the input does: so it counts its turns down from a number that no run uses up.
 fn serve_all(
+    input: Stdin,
     part: &mut [u8; PART],
     line: &mut [u8],
     s: &mut [u64; STORE],
@@ -97,7 +100,7 @@ fn serve_all(
     let mut reader = Reader::new();
     let mut turns = u64::MAX;
     while 0 < turns {
-        let read = lines::next(part, reader, line);
+        let read = lines::next(input, part, reader, line);
         let got = read.line;
         if !serve_line(got, line, s, t, o, at) {
             break;
@@ -107,7 +110,7 @@ fn serve_all(
     }
 }
 
-fn main() {
+fn main(rt: HostRuntime) {
     let mut part = io::large_buffer();
     let mut line = [0u8; LONGEST];
     // Zeros are no laid out store: until the first `new` every call finds that its header fails.
@@ -115,6 +118,6 @@ fn main() {
     let mut t = [0u64; TABLE];
     let mut o = io::large_buffer();
     let mut at: usize = 0;
-    serve_all(&mut part, &mut line, &mut s, &mut t, &mut o, &mut at);
+    serve_all(rt.stdin(), &mut part, &mut line, &mut s, &mut t, &mut o, &mut at);
     out::flush(&mut o, &mut at);
 }

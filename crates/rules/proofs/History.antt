@@ -1,16 +1,15 @@
 -- Any list of calls: a sound queue stays sound; and laying out is refused 4 exactly where it should be.
 -- A reader may rely on answer-sound and run_sound for every call, laying out included.
-use mathlib.Core.Path.{◌≡◌, refl, sym, ap, ◌∙◌}
-use mathlib.Core.Logic.{◌↔◌}
+use mathlib.Core.Path.{◌≡◌, refl}
 use mathlib.Core.Bool.{Bool, true, false, ◌&&◌}
 use mathlib.Core.List.{List, [], ◌∷◌}
 use Prim.Native.Nat.{ℕ}
 use native.Mathlib.Omega.{arith}
 use lib.Dec.{leb}
 use borrow.Author.Tests.{le-leb, leb-true}
-use Rattle.handle.specs.Numbers.{limit, top_limit, InRange}
+use Rattle.handle.specs.Numbers.{limit, top_limit}
 use Rattle.rules.specs.Queue.{Queue, fresh}
-use Rattle.rules.specs.Answers.{Laid, laid, not_laid, bad_layout}
+use Rattle.rules.specs.Answers.{laid, not_laid, bad_layout}
 use Rattle.rules.specs.Sound.{Sound}
 use Rattle.rules.specs.LayOut.{Good, good, laid_by, lay_out}
 use Rattle.rules.specs.Table.{LayAnswers}

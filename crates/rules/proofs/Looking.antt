@@ -144,7 +144,7 @@ module _ (q : Queue) (s : Sound q) (a : List Entry) (x : Entry) (b : List Entry)
   unfolding own stands_at Lists.last
   prev-ends e = prev-is (handle_of x) q s (own q [] x b e)
 
--- stand_first and stand_last, on any queue
+-- first and last, on any queue
 module _ (q : Queue) (a : List Entry) (x : Entry) where
   pub first-stands : entries q ≡ x ∷ a → stand_first q ≡ stands (handle_of x)
   unfolding stand_first stands_at Lists.first
@@ -182,6 +182,7 @@ module _ (key : ℕ) (q : Queue) (s : Sound q) where
   search-there (equal_at h n) f g = (h, n, refl)
   search-there (beside h d n) f g = absurd (f.0 g)
   search-there (no_entry n) f g = absurd (rw f.1 at g.1)
+  search-there (not_found n) f g = absurd f
 
   pub search-never : (n : ℕ) → ¬ (search_for key q ≡ not_found n)
   search-never n e = subst (λ (a : SearchAnswer). SearchAnswers key q a) e search-answers

@@ -4,7 +4,7 @@ use mathlib.Core.Path.{◌≡◌, refl, sym, ap, ◌∙◌, subst}
 use mathlib.Core.Logic.{inl, inr}
 use mathlib.Core.Bool.{Bool}
 use mathlib.Core.List.{List, head-eq_of_cons-eq}
-use mathlib.Core.Option.{Option, some, some-injective}
+use mathlib.Core.Option.{Option, some-injective}
 use Prim.Native.Nat.{ℕ}
 use native.Mathlib.Omega.{arith}
 use Rattle.wavl.specs.Lists.{first, last}

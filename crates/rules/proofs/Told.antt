@@ -161,7 +161,7 @@ pub ahead-answers : (k : Kind) (key : ℕ) (q : Queue) → Sound q → AheadAnsw
 unfolding foresee
 ahead-answers k key q s = ahead-told k key q (insert k key 0 q).0 (insert-answers key 0 q s k)
 
--- the at_end of a chain
+-- the ends of a chain
 last-split : (z : Entry) (l : List Entry) → (k : List Entry) × (y : Entry) × (z ∷ l ≡ k ++ (y ∷ [])) × (last (z ∷ l) ≡ some y)
 unfolding last
 last-split z [] = ([], z, refl, refl)

@@ -59,7 +59,7 @@ answer enough (removal h) q = remove h q
 answer enough (laying_out capacity top) q = lay_out enough capacity top q
 answer enough (looks l) q = (look l q, q)
 
--- a call and what it answered; a history has these in the order of the calls, the stand_first call stand_first
+-- a call and what it answered; a history has these in the order of the calls, the first call first
 pub record Event : Type 0 where
   pub call : Call
   pub reply : Answer call

@@ -19,7 +19,7 @@ read_spot (spot a x r b p) = reads x.key x.value
 unfoldable pub read : Handle → Queue → Read
 read h q = read_spot (spot_of h q)
 
--- "Search as a call answers the equal entry's handle, or the stand_last node's handle and the side, or Empty, each with the count."
+-- "Search as a call answers the equal entry's handle, or the last node's handle and the side, or Empty, each with the count."
 abbrev pub where_of : Side → Where
 where_of left = less
 where_of right = greater
@@ -32,7 +32,7 @@ found_in Search.empty_tree = no_entry 0
 unfoldable pub search_for : ℕ → Queue → SearchAnswer
 search_for key q = found_in (Search.answer_at (Search.search key q.tree))
 
--- "It starts at stand_first, stand_last or a live handle; on an empty queue stand_first and stand_last answer End."
+-- "It starts at first, last or a live handle; on an empty queue first and last answer End."
 unfoldable pub stands_at : Option Entry → Stepped
 stands_at none = at_end
 stands_at (some x) = stands (handle_of x)

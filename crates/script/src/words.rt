@@ -1,6 +1,4 @@
 // The words of the script language: the first field of a line, exactly and in lower case.
-use check::same;
-
 #[derive(Drop)]
 pub enum Word {
     New,
@@ -30,63 +28,63 @@ pub fn word_of(s: &[u8]) -> Word {
     if s.len() == 4 {
         return word_of_four(s);
     }
-    if same(s, b"first") {
+    if s == b"first".as_slice() {
         return Word::First;
     }
-    if same(s, b"check") {
+    if s == b"check".as_slice() {
         return Word::Check;
     }
     Word::Unknown
 }
 
 fn word_of_three(s: &[u8]) -> Word {
-    if same(s, b"ins") {
+    if s == b"ins".as_slice() {
         return Word::Ins;
     }
-    if same(s, b"rem") {
+    if s == b"rem".as_slice() {
         return Word::Rem;
     }
-    if same(s, b"man") {
+    if s == b"man".as_slice() {
         return Word::Man;
     }
-    if same(s, b"get") {
+    if s == b"get".as_slice() {
         return Word::Get;
     }
-    if same(s, b"emp") {
+    if s == b"emp".as_slice() {
         return Word::Emp;
     }
-    if same(s, b"new") {
+    if s == b"new".as_slice() {
         return Word::New;
     }
     Word::Unknown
 }
 
 fn word_of_four(s: &[u8]) -> Word {
-    if same(s, b"find") {
+    if s == b"find".as_slice() {
         return Word::Find;
     }
-    if same(s, b"next") {
+    if s == b"next".as_slice() {
         return Word::Next;
     }
-    if same(s, b"prev") {
+    if s == b"prev".as_slice() {
         return Word::Prev;
     }
-    if same(s, b"peek") {
+    if s == b"peek".as_slice() {
         return Word::Peek;
     }
-    if same(s, b"pemp") {
+    if s == b"pemp".as_slice() {
         return Word::Pemp;
     }
-    if same(s, b"pman") {
+    if s == b"pman".as_slice() {
         return Word::Pman;
     }
-    if same(s, b"last") {
+    if s == b"last".as_slice() {
         return Word::Last;
     }
-    if same(s, b"list") {
+    if s == b"list".as_slice() {
         return Word::List;
     }
-    if same(s, b"dump") {
+    if s == b"dump".as_slice() {
         return Word::Dump;
     }
     Word::Unknown

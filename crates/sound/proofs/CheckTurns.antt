@@ -8,12 +8,11 @@ use lib.Dec.{eqb}
 use borrow.Author.Tests.{eq-eqb, ne_eqb, leb-false}
 use Rattle.handle.specs.Numbers.{no_slot}
 use Rattle.arena.specs.Branch.{ifte}
-use Rattle.arena.specs.Words.{field, head, LEFT, RIGHT, ROOT}
-use Rattle.arena.specs.inner.Budget.{budget}
+use Rattle.arena.specs.Words.{field, head, LEFT, RIGHT}
 use Rattle.arena.proofs.Paths.{no_refusal}
 use Rattle.sound.specs.inner.Nodes.{node_test}
 use Rattle.sound.specs.inner.Joints.{join_test}
-use Rattle.sound.specs.inner.Walking.{walk_node, walk_model, whole_test}
+use Rattle.sound.specs.inner.Walking.{walk_node, walk_model}
 use Rattle.sound.specs.inner.Slots.{slot_test, place_test, slots_test}
 use Rattle.sound.specs.inner.Check.{unused_test}
 use Rattle.sound.specs.declared.walking.Walked.{Walked}
@@ -108,12 +107,3 @@ module _ (s : List ℕ) (cap top back p q : ℕ) where
 
           pub walk_on : u ≡ true → (b : ℕ) → b ≡ field s cap p RIGHT → (z : Walked) → z ≡ walk_model (n - 1) s cap top p b p → z ≡ walk_model n s cap top back p q
           walk_on o b h z w = rw (walk_open n l, ← f, g, ← d, ← m, k, ← j, o, ← h) w
-
-module _ (s : List ℕ) (cap top : ℕ) (a : ℕ) (d : a ≡ head s ROOT) (x : Walked) (m : x ≡ walk_model budget s cap top no_slot a no_slot) where
-  pub whole_broken : x ≡ Broken → false ≡ whole_test s cap top
-  unfolding whole_test
-  whole_broken k = rw (← d, ← m, k)
-
-  pub whole_on : (y : ℕ) → x ≡ To y → (t : Bool) → t ≡ join_test s cap y no_slot → t ≡ whole_test s cap top
-  unfolding whole_test
-  whole_on y k t e = rw (← d, ← m, k) e

@@ -10,6 +10,7 @@ use arena::words;
 use arena::words::{FIRST, KEY, LAST, NEXT, PREV};
 
 // What the words say stands after x.
+#[tactic(auto, unfolding(crate::specs::inner::Joints::after_of))]
 fn after(s: &[u64], cap: u64, x: u64) -> u64
     requires { Room s.now cap }
     ensures { result ≡ after_of s.now cap x }
@@ -21,6 +22,7 @@ fn after(s: &[u64], cap: u64, x: u64) -> u64
 }
 
 // What the words say stands before y.
+#[tactic(auto, unfolding(crate::specs::inner::Joints::before_of))]
 fn before(s: &[u64], cap: u64, y: u64) -> u64
     requires { Room s.now cap }
     ensures { result ≡ before_of s.now cap y }
@@ -32,6 +34,7 @@ fn before(s: &[u64], cap: u64, y: u64) -> u64
 }
 
 // Rule 4 between x and y, where both are slots.
+#[tactic(auto, unfolding(crate::specs::inner::Joints::rises_test))]
 fn rises(s: &[u64], cap: u64, x: u64, y: u64) -> bool
     requires { Room s.now cap }
     ensures { result ≡ rises_test s.now cap x y }
@@ -46,6 +49,7 @@ fn rises(s: &[u64], cap: u64, x: u64, y: u64) -> bool
 }
 
 // y stands after x in the chain.
+#[tactic(auto, unfolding(crate::specs::inner::Joints::join_test))]
 pub fn joins(s: &[u64], cap: u64, x: u64, y: u64) -> bool
     requires { Room s.now cap }
     ensures { result ≡ join_test s.now cap x y }

@@ -1,6 +1,8 @@
 // The check: whether a store is sound, for any words at all. It changes nothing.
 // First the header, then each slot and each place of the free stack by single words, then tree and chain by one walk from the root.
 // From the Rust: _check_invariants of ord/find.rs, with the rules that document 01 adds.
+#![tactic(auto)]
+
 ghost use Rattle.std.specs.Prelude.{◌≡◌, ◌<◌};
 ghost use Rattle.arena.specs.Words.{Long, Room};
 ghost use Rattle.sound.specs.inner.Check.{top_test, unused_test, rules_test};
@@ -17,6 +19,7 @@ pub mod slots;
 pub mod walking;
 
 // Rule 6: "The top lies in its range".
+#[tactic(auto, unfolding(crate::specs::inner::Check::top_test, handle::specs::Numbers::top_limit))]
 fn good_top(top: u64) -> bool
     ensures { result ≡ top_test top }
 {
@@ -45,6 +48,7 @@ fn unused(s: &[u64]) -> bool
 }
 
 // Rules 1 to 7 of a store whose header passes.
+#[tactic(auto, unfolding(crate::specs::inner::Check::rules_test, crate::specs::inner::Check::rules_with))]
 fn good_rules(s: &[u64], cap: u64) -> bool
     requires { Room s.now cap }
     ensures { result ≡ rules_test s.now cap }

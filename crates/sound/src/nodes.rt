@@ -9,6 +9,7 @@ use arena::words;
 use arena::words::{BACK, GENERATION, LEFT, RANK, RIGHT};
 
 // Rule 2 of a rank r over children of the ranks a and b. Differences, as a sum of two words may not fit.
+#[tactic(auto, unfolding(crate::specs::inner::Nodes::fits_test))]
 fn fits(r: u64, a: u64, b: u64) -> bool
     ensures { result ≡ fits_test r a b }
 {
@@ -31,6 +32,7 @@ fn fits(r: u64, a: u64, b: u64) -> bool
 }
 
 // Rule 6: "each generation in 1 to top".
+#[tactic(auto, unfolding(crate::specs::inner::Nodes::generation_test))]
 pub fn good_generation(g: u64, top: u64) -> bool
     ensures { result ≡ generation_test g top }
 {
@@ -44,6 +46,7 @@ pub fn good_generation(g: u64, top: u64) -> bool
 }
 
 // Rule 2 at the slot p.
+#[tactic(auto, unfolding(crate::specs::inner::Nodes::ranks_test))]
 fn good_ranks(s: &[u64], cap: u64, p: u64) -> bool
     requires room { Room s.now cap }
     requires p_lt_cap { p < cap }
@@ -56,6 +59,7 @@ fn good_ranks(s: &[u64], cap: u64, p: u64) -> bool
 }
 
 // The link p, found below the slot `back`, leads to a node that hangs there.
+#[tactic(auto, unfolding(crate::specs::inner::Nodes::node_test))]
 pub fn good_node(s: &[u64], cap: u64, top: u64, back: u64, p: u64) -> bool
     requires { Room s.now cap }
     ensures { result ≡ node_test s.now cap top back p }

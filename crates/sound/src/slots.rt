@@ -14,6 +14,7 @@ use arena::words::{
 use handle::Handle;
 
 // The links of a slot without an entry hold their fixed value.
+#[tactic(auto, unfolding(crate::specs::inner::Slots::unlinked_test))]
 fn unlinked(s: &[u64], cap: u64, i: u64) -> bool
     requires room { Room s.now cap }
     requires i_lt_cap { i < cap }
@@ -35,6 +36,7 @@ fn unlinked(s: &[u64], cap: u64, i: u64) -> bool
 }
 
 // Rule 7 of a slot without an entry.
+#[tactic(auto, unfolding(crate::specs::inner::Slots::blank_test))]
 fn is_blank(s: &[u64], cap: u64, i: u64) -> bool
     requires room { Room s.now cap }
     requires i_lt_cap { i < cap }
@@ -50,6 +52,7 @@ fn is_blank(s: &[u64], cap: u64, i: u64) -> bool
 }
 
 // A slot without an entry is retired in the top generation, or free: it names its place in the stack of height h, and that names it.
+#[tactic(auto, unfolding(crate::specs::inner::Slots::rest_test, crate::specs::inner::Slots::rest_with))]
 fn at_rest(s: &[u64], cap: u64, top: u64, h: u64, i: u64) -> bool
     requires room { Room s.now cap }
     requires i_lt_cap { i < cap }
@@ -71,6 +74,7 @@ fn at_rest(s: &[u64], cap: u64, top: u64, h: u64, i: u64) -> bool
 }
 
 // The slot i is a child of the slot p.
+#[tactic(auto, unfolding(crate::specs::inner::Slots::child_test))]
 fn is_child(s: &[u64], cap: u64, i: u64, p: u64) -> bool
     requires room { Room s.now cap }
     requires p_lt_cap { p < cap }
@@ -83,6 +87,7 @@ fn is_child(s: &[u64], cap: u64, i: u64, p: u64) -> bool
 }
 
 // A live slot is the root, or hangs below a slot of a greater rank. Ranks are small, so that one comes to the root.
+#[tactic(auto, unfolding(crate::specs::inner::Slots::hangs_test, crate::specs::inner::Slots::hangs_with, arena::specs::inner::Budget::budget))]
 fn hangs(s: &[u64], cap: u64, i: u64) -> bool
     requires room { Room s.now cap }
     requires i_lt_cap { i < cap }
@@ -103,6 +108,7 @@ fn hangs(s: &[u64], cap: u64, i: u64) -> bool
 }
 
 // Rules 5 and 7 of the slot i.
+#[tactic(auto, unfolding(crate::specs::inner::Slots::slot_test))]
 fn good_slot(s: &[u64], cap: u64, top: u64, h: u64, i: u64) -> bool
     requires room { Room s.now cap }
     requires i_lt_cap { i < cap }
@@ -119,6 +125,7 @@ fn good_slot(s: &[u64], cap: u64, top: u64, h: u64, i: u64) -> bool
 }
 
 // Rule 5 of the stack's place p: below the height it holds a slot without an entry that names the place, else no slot.
+#[tactic(auto, unfolding(crate::specs::inner::Slots::place_test, crate::specs::inner::Slots::place_with))]
 fn good_place(s: &[u64], cap: u64, h: u64, p: u64) -> bool
     requires room { Room s.now cap }
     requires p_lt_cap { p < cap }

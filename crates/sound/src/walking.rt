@@ -47,6 +47,7 @@ fn walk(s: &[u64], cap: u64, top: u64, n: u64, back: u64, p: u64, q: u64) -> Wal
 }
 
 // The whole tree and the whole chain.
+#[tactic(auto, unfolding(crate::specs::inner::Walking::whole_test, arena::specs::inner::Budget::budget))]
 pub fn good_tree(s: &[u64], cap: u64, top: u64) -> bool
     requires { Room s.now cap }
     ensures { result ≡ whole_test s.now cap top }

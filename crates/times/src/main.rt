@@ -2,6 +2,8 @@
 // `key DAY SECOND OFFSET DRUM` asks for a key, `time KEY OFFSET` for a local time and its drum; lines that are empty or
 // begin with # are copied. All that matters is in the crate `due`; this program only reads and writes numbers, and
 // nothing else relies on it.
+#![tactic(auto)]
+
 mod text;
 
 ghost use Rattle.std.specs.Prelude.{length};
@@ -11,6 +13,7 @@ use due::{KeyAnswer, TimeAnswer};
 use input::lines;
 use input::lines::{Line, PART, Reader};
 use output::say;
+use std::io::Stdin;
 use text::Asked;
 
 // Bytes that are kept of a line: the longest question, of four numbers, has 87.
@@ -67,11 +70,11 @@ fn answer_line(got: Line, line: &[u8]) -> bool
 }
 
 // A proved loop has to end, and nothing says that the input does: so it counts its turns down from a number that no run uses up.
-fn answer_all(part: &mut [u8; PART], line: &mut [u8]) {
+fn answer_all(input: Stdin, part: &mut [u8; PART], line: &mut [u8]) {
     let mut reader = Reader::new();
     let mut turns = u64::MAX;
     while 0 < turns {
-        let read = lines::next(part, reader, line);
+        let read = lines::next(input, part, reader, line);
         let got = read.line;
         if !answer_line(got, line) {
             break;
@@ -81,8 +84,8 @@ fn answer_all(part: &mut [u8; PART], line: &mut [u8]) {
     }
 }
 
-fn main() {
+fn main(rt: HostRuntime) {
     let mut part = io::large_buffer();
     let mut line = [0u8; LINE];
-    answer_all(&mut part, &mut line);
+    answer_all(rt.stdin(), &mut part, &mut line);
 }

@@ -76,10 +76,10 @@ pub fn question(s: &[u8]) -> Asked {
     if s.len() < 4 {
         return Asked::Nothing;
     }
-    if check::same(&s[0..3], b"key") {
+    if &s[0..3] == b"key".as_slice() {
         return key_asked(s);
     }
-    if check::same(&s[0..4], b"time") {
+    if &s[0..4] == b"time".as_slice() {
         return time_asked(s);
     }
     Asked::Nothing

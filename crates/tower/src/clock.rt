@@ -16,7 +16,7 @@ const HOUR_DRUM: i64 = 1;
 const BELL_DRUM: i64 = 2;
 
 // When in the day a strike is due, and on which drum.
-#[derive(Drop)]
+#[derive(Clone, Copy)]
 pub struct OnDrum {
     pub second: Second,
     pub drum: Drum,

@@ -7,7 +7,7 @@ use output::say;
 use queue::placing;
 
 // How a strike is placed: by its time, as the only one, or just before another.
-#[derive(Drop)]
+#[derive(Clone, Copy)]
 pub enum Way {
     ByTime,
     Alone,

@@ -1,6 +1,8 @@
 // The tree's links in the store, one small step at a time: what placing and taking away are made of.
 // A side is 0 for left and 1 for right; LEFT + d is the child on the side d. A link is tested before it is used.
 // From the Rust: the repeated pieces of ord/insert.rs and ord/remove.rs.
+#![tactic(auto)]
+
 ghost use Rattle.std.specs.Prelude.{◌≡◌, ◌<◌, ◌≤◌};
 ghost use Rattle.arena.specs.Words.{Room};
 ghost use Rattle.tree.specs.inner.Links.{rank_of, side_of_child, with_back, relinked, with_node, with_child, spread_with};
@@ -18,7 +20,7 @@ pub enum Climbed {
 }
 
 // A node as it is to be written: its parent or no slot, its child on a side that is said beside it, its other child, its rank.
-#[derive(Drop)]
+#[derive(Clone, Copy)]
 pub struct Node {
     pub back: u64,
     pub near: u64,

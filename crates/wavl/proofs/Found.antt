@@ -26,7 +26,7 @@ pub record Hit (k : ℕ) (t : Tree) (a : Tree) (e : Entry) (r : ℕ) (b : Tree) 
   pub key-is : e.key ≡ k
   pub present : In e (inorder t)
 
--- no entry of t has the key, and the empty place lies between the smaller keys and the key_greater ones
+-- no entry of t has the key, and the empty place lies between the smaller keys and the greater ones
 pub record Missed (k : ℕ) (t : Tree) (p : Way) : Type 0 where
   pub back : plug tip p ≡ t
   pub order : inorder t ≡ before p ++ after p

@@ -2,8 +2,8 @@
 -- what they are, handles included.
 -- A reader may rely on: replacement_is is document 01's sentence word for word, for every node of a ranked tree.
 use mathlib.Core.Logic.{◌⊎◌, inl, inr, ◌↔◌}
-use mathlib.Core.Path.{◌≡◌, refl, sym, ap, ◌∙◌}
-use mathlib.Core.List.{[], ◌∷◌, ◌++◌, append_assoc}
+use mathlib.Core.Path.{◌≡◌, refl, sym, ap, subst, ◌∙◌}
+use mathlib.Core.List.{List, [], ◌∷◌, ◌++◌, append_assoc}
 use mathlib.Core.Option.{some, none}
 use Prim.Native.Nat.{ℕ, ◌≤◌}
 use native.Mathlib.Omega.{arith}
@@ -125,24 +125,28 @@ endmost_in left (fork (fork a f q c) e r b) h = in_left _ (inorder (fork a f q c
 endmost_in right (fork a e r tip) h = in_right e (inorder a) (e ∷ []) (inl refl)
 endmost_in right (fork a e r (fork b f q c)) h = in_right _ (inorder a) (e ∷ inorder (fork b f q c)) (inr (endmost_in right (fork b f q c) tt))
 
+-- a member by an equal name
+same_in : {f g : Entry} (l : List Entry) → f ≡ g → In g l → In f l
+same_in l e i = subst (λ (x : Entry). In x l) (sym e) i
+
 moved_end_in : (d : Side) (t : Tree) (f : Entry) → In f (moved_end d t) → In f (inorder t)
 unfolding moved_end inorder
 moved_end_in d tip f h = absurd h
 moved_end_in left (fork tip e r tip) f h = absurd h
-moved_end_in left (fork tip e r (fork b g q c)) f (inl h) = inr (rw h (endmost_in left (fork b g q c) tt))
+moved_end_in left (fork tip e r (fork b g q c)) f (inl h) = inr (same_in (inorder (fork b g q c)) h (endmost_in left (fork b g q c) tt))
 moved_end_in left (fork tip e r (fork b g q c)) f (inr h) = inr (moved_end_in left (fork b g q c) f h)
 moved_end_in left (fork (fork a g q c) e r b) f h = in_left f (inorder (fork a g q c)) (e ∷ inorder b) (moved_end_in left (fork a g q c) f h)
 moved_end_in right (fork tip e r tip) f h = absurd h
-moved_end_in right (fork (fork a g q c) e r tip) f (inl h) = in_left f (inorder (fork a g q c)) (e ∷ []) (rw h (endmost_in right (fork a g q c) tt))
+moved_end_in right (fork (fork a g q c) e r tip) f (inl h) = in_left f (inorder (fork a g q c)) (e ∷ []) (same_in (inorder (fork a g q c)) h (endmost_in right (fork a g q c) tt))
 moved_end_in right (fork (fork a g q c) e r tip) f (inr h) = in_left f (inorder (fork a g q c)) (e ∷ []) (moved_end_in right (fork a g q c) f h)
 moved_end_in right (fork a e r (fork b g q c)) f h = in_right f (inorder a) (e ∷ inorder (fork b g q c)) (inr (moved_end_in right (fork b g q c) f h))
 
 moved_in : (a : Tree) (e : Entry) (r : ℕ) (b : Tree) (f : Entry) → In f (moved (fork a e r b)) → In f (inorder a ++ inorder b)
 unfolding moved inorder
 moved_in tip e r tip f h = absurd h
-moved_in tip e r (fork b g q c) f (inl h) = rw h (endmost_in left (fork b g q c) tt)
+moved_in tip e r (fork b g q c) f (inl h) = same_in (inorder (fork b g q c)) h (endmost_in left (fork b g q c) tt)
 moved_in tip e r (fork b g q c) f (inr h) = moved_end_in left (fork b g q c) f h
-moved_in (fork a g q c) e r b f (inl h) = in_left f (inorder (fork a g q c)) (inorder b) (rw h (endmost_in right (fork a g q c) tt))
+moved_in (fork a g q c) e r b f (inl h) = in_left f (inorder (fork a g q c)) (inorder b) (same_in (inorder (fork a g q c)) h (endmost_in right (fork a g q c) tt))
 moved_in (fork a g q c) e r b f (inr h) = in_left f (inorder (fork a g q c)) (inorder b) (moved_end_in right (fork a g q c) f h)
 
 -- "The handles of moved entries stay": an entry that moves stands in the tree afterwards, whole

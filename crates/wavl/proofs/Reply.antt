@@ -1,4 +1,4 @@
--- What search answers as a call: the key_equal entry, or the last node looked at and the side, or Empty, each with the count.
+-- What search answers as a call: the equal entry, or the last node looked at and the side, or Empty, each with the count.
 -- A reader may rely on: answer-right says all of it, for a tree with rising keys.
 use mathlib.Core.Path.{◌≡◌, refl, sym}
 use mathlib.Core.List.{List, [], ◌∷◌, ◌++◌}

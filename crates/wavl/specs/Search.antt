@@ -1,4 +1,4 @@
--- Finding a place: by key ("search from the root, left if key_less, right if key_greater, to an key_equal key or a missing child"), by
+-- Finding a place: by key ("search from the root, left if less, right if greater, to an equal key or a missing child"), by
 -- slot, and the empty place beside a node (Manual).
 -- A reader may rely on: search and locate change no tree; where nothing is found, what hangs at the place is a tip.
 use Rattle.std.specs.Prelude.{List, [], ◌∷◌, ◌≡◌, ℕ, suc, ◌<◌, length}
@@ -49,7 +49,7 @@ unfoldable pub looked : Place → ℕ
 looked (place tip p) = length p
 looked (place (fork a e r b) p) = suc (length p)
 
--- "Search as a call answers the key_equal entry's handle, or the last node's handle and the side, or Empty, each with the count."
+-- "Search as a call answers the equal entry's handle, or the last node's handle and the side, or Empty, each with the count."
 pub data Found : Type 0 where
   equal_to : Entry → ℕ → Found
   nearest : Entry → Side → ℕ → Found

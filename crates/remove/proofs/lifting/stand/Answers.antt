@@ -1,0 +1,5 @@
+use Rattle.remove.proofs.LiftReads.{stand_steps}
+use Rattle.remove.proofs.lifting.stand.Goals as goal
+
+pub returns : goal.returns
+returns c = search stand_steps
