@@ -2,6 +2,7 @@
 // Each is a type of its own, so that none can be passed for another (document 01, "What a queue holds").
 // From the Rust: fundamental/ptr.rs (Ptr, its index and its generation) and fundamental/errors.rs.
 #![tactic(auto)]
+
 ghost use Rattle.std.specs.Prelude.{◌≡◌};
 ghost use Rattle.handle.specs.Numbers.{no_slot, first_generation, refusal_number};
 

@@ -22,7 +22,7 @@ use Rattle.wavl.specs.Placing.{insert_at}
 use Rattle.wavl.proofs.Lists.{in_left, in_right, pairwise_left, slots_append}
 use Rattle.wavl.proofs.Order.{insert_at-same}
 use Rattle.wavl.proofs.Rule.{ranked→ranks}
-use Rattle.rules.specs.Answers.{Inserted, new}
+use Rattle.rules.specs.Answers.{new}
 use Rattle.rules.specs.Queue.{Handle, Queue, entry_with, entries, changed}
 use Rattle.rules.specs.Insert.{add_with}
 use Rattle.rules.specs.Sound.{Sound, free_slots}

@@ -7,7 +7,6 @@ use mathlib.Core.List.{List}
 use native.Mathlib.Decide.{ℕ_discrete}
 use native.Mathlib.Omega.{arith}
 use lib.Dec.{lit<}
-use Rattle.handle.specs.Numbers.{no_slot}
 use Rattle.arena.specs.Words.{Long, field, put, KEY, LEFT, BACK, PREV, NEXT, GENERATION, VALUE, STACK, FIRST, LAST, ROOT}
 use Rattle.arena.specs.inner.Only.{Only, NoHead}
 use Rattle.arena.proofs.WordLaws.{length_put, field-same, field_off}

@@ -1,6 +1,6 @@
 -- What the climb leaves alone, for proofs on sound stores and for the promises on any store: all but the tree.
 -- `TreeOnly` and its laws for the steps of crate `tree` are shared with the climb after an insertion.
-use Prim.Native.Nat.{ℕ, zero, suc, ◌+◌, ◌-◌, ◌<◌, ◌≤◌}
+use Prim.Native.Nat.{ℕ, zero, suc, ◌+◌, ◌<◌, ◌≤◌}
 use mathlib.Core.List.{List}
 use native.Mathlib.Omega.{arith}
 use lib.Dec.{ltb, leb, eqb}

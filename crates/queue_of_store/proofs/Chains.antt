@@ -1,6 +1,6 @@
 -- The chain of the words around an entry, and what a step and an end mean on a store that holds a queue.
 -- A reader may rely on: step-means, over the side, first-means and last-means; chain-at, for an entry anywhere in the chain.
-use Prim.Native.Nat.{ℕ, ◌+◌, ◌<◌}
+use Prim.Native.Nat.{ℕ, ◌<◌}
 use mathlib.Core.Path.{◌≡◌, refl, ap}
 use mathlib.Core.Logic.{inl, inr}
 use mathlib.Core.List.{List, [], ◌∷◌, ◌++◌}

@@ -1,6 +1,6 @@
 -- A slot given back: blank, on the free stack with its generation raised, or retired at the top generation.
 -- A reader may rely on: free-again and free-last are the two answers of crate `arena`; push_first and retire are their words.
-use Prim.Native.Nat.{ℕ, suc, ◌+◌, ◌-◌, ◌≤◌, ◌<◌}
+use Prim.Native.Nat.{ℕ, suc, ◌+◌, ◌≤◌, ◌<◌}
 use mathlib.Core.Path.{◌≡◌, refl, ◌∙◌}
 use mathlib.Core.List.{List, ◌∷◌}
 use native.Mathlib.Omega.{arith}

@@ -1,6 +1,6 @@
 -- What writes leave of each group of a queue's words: a group stays where none of its own places is written.
 -- A reader may rely on: one law per group, over any writes; the places that a group has are its premise.
-use Prim.Native.Nat.{ℕ, ◌-◌, ◌<◌, ◌≤◌}
+use Prim.Native.Nat.{ℕ, ◌<◌, ◌≤◌}
 use mathlib.Core.Path.{◌≡◌, refl, ◌∙◌}
 use mathlib.Core.Logic.{inl, inr}
 use mathlib.Core.List.{List, [], ◌∷◌}

@@ -1,6 +1,6 @@
 -- Linking in and out, seen by the chain: an entry put in anywhere, an entry taken out anywhere. One law over the side.
 -- A reader may rely on: chain_in with after-links, before-links or alone_links, and chain-out with joined-unlinks.
-use Prim.Native.Nat.{ℕ, ◌+◌, ◌-◌, ◌≤◌, ◌<◌}
+use Prim.Native.Nat.{ℕ, ◌≤◌, ◌<◌}
 use mathlib.Core.Path.{◌≡◌, refl, sym, ◌∙◌}
 use mathlib.Core.Logic.{◌⊎◌, inl, inr}
 use mathlib.Core.List.{List, [], ◌∷◌, ◌++◌, append-nil}

@@ -1,7 +1,7 @@
 -- Holds taken apart into a sound queue and words, and put together again; and the bounds that follow.
 -- A reader may rely on: a proof of a call shows Sound by crate `rules` and Words by the writes, and ends with holds_of.
 use Prim.Native.Nat.{ℕ, ◌+◌, ◌≤◌, ◌<◌}
-use mathlib.Core.Path.{◌≡◌, refl}
+use mathlib.Core.Path.{refl}
 use mathlib.Core.List.{List}
 use native.Mathlib.Omega.{arith}
 use lib.ListN.{length, length-append}

@@ -1,6 +1,6 @@
 -- A change of the tree's shape and ranks alone: writes to links of live slots and to ROOT leave every other group as it was.
 -- A reader may rely on: after a climb or a restructure the new tree's words are all that is left to show.
-use Prim.Native.Nat.{ℕ, ◌≤◌, ◌<◌}
+use Prim.Native.Nat.{ℕ, ◌≤◌}
 use mathlib.Core.Path.{◌≡◌, ◌∙◌}
 use mathlib.Core.List.{List}
 use native.Mathlib.Omega.{arith}

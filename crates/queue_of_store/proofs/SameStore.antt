@@ -1,6 +1,6 @@
 -- One store for a queue: two stores of one length that hold the same queue and agree past the needed numbers are the same.
 -- A reader may rely on: every header word and every field of every slot, live, free or retired, follows from the queue.
-use Prim.Native.Nat.{ℕ, zero, suc, ◌-◌, ◌≤◌, ◌<◌}
+use Prim.Native.Nat.{ℕ, zero, suc, ◌≤◌, ◌<◌}
 use mathlib.Core.Path.{◌≡◌, sym, ◌∙◌}
 use mathlib.Core.Logic.{◌⊎◌, inl, inr, ⊎_elim}
 use mathlib.Core.List.{List, [], ◌∷◌}

@@ -2,7 +2,7 @@
 -- tree's member. A reader may rely on: only LEFT, RIGHT, RANK and BACK of the tree's own slots matter.
 use Prim.Native.Nat.{ℕ, ◌+◌, ◌-◌, ◌≤◌, ◌<◌}
 use mathlib.Core.Path.{◌≡◌, refl, ◌∙◌}
-use mathlib.Core.Logic.{◌⊎◌, ⊎_elim}
+use mathlib.Core.Logic.{⊎_elim}
 use mathlib.Core.List.{List}
 use native.Mathlib.Omega.{arith}
 use Rattle.arena.specs.Words.{field, LEFT, RIGHT, RANK, BACK}

@@ -1,7 +1,7 @@
 -- The restructures of document 01 in the words, as crates `raise` and `lower` write them, without the hook above.
 -- A reader may rely on: each law starts from the links of the parts, whatever tree they hung in before; distinct slots are those of
 -- the tree afterwards, which has the same list of slots. One law over the side.
-use Prim.Native.Nat.{ℕ, ◌-◌, ◌≤◌, ◌<◌}
+use Prim.Native.Nat.{ℕ, ◌≤◌, ◌<◌}
 use mathlib.Core.Path.{◌≡◌, refl, sym}
 use mathlib.Core.List.{List}
 use native.Mathlib.Omega.{arith}

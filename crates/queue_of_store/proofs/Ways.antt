@@ -1,7 +1,7 @@
 -- The words of a whole tree, taken apart at a place and put together again: the tree that hangs there, its hook, the way up.
 -- A reader may rely on: plugged and unplugged are each other's way back, so that a change at any depth is a change of a subtree's
 -- links and of its hook, with the way kept.
-use Prim.Native.Nat.{ℕ, ◌-◌}
+use Prim.Native.Nat.{ℕ}
 use mathlib.Core.Path.{◌≡◌, refl}
 use mathlib.Core.Logic.{◌⊎◌, inl, inr}
 use mathlib.Core.List.{List, [], ◌∷◌}

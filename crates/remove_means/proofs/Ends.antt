@@ -7,7 +7,7 @@ use native.Mathlib.Omega.{arith}
 use Rattle.handle.specs.Numbers.{no_slot}
 use Rattle.arena.specs.Words.{field, PREV}
 use Rattle.wavl.specs.Entry.{Entry}
-use Rattle.wavl.specs.Tree.{right, Tree, tip, fork, rank, inorder}
+use Rattle.wavl.specs.Tree.{right, Tree, tip, fork, inorder}
 use Rattle.wavl.specs.Way.{step, Way, plug, before, after}
 use Rattle.wavl.specs.Ranks.{Ranks}
 use Rattle.wavl.specs.Taking.{settle, endmost, vacate_end}

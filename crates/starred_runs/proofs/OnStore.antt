@@ -1,6 +1,6 @@
 -- The starred runs hold of a laid out store as well: the table's theorem, carried over through what the store follows.
 -- A reader may rely on starred_on_the_store, for every store that is long enough for the run's capacity.
-use mathlib.Core.Path.{◌≡◌, ap, subst, ◌∙◌}
+use mathlib.Core.Path.{ap, subst, ◌∙◌}
 use mathlib.Core.List.{List}
 use Prim.Native.Nat.{ℕ}
 use lib.ListN.{length}

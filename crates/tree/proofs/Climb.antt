@@ -3,7 +3,6 @@ use Prim.Native.Nat.{ℕ, ◌<◌, ◌≤◌}
 use mathlib.Core.Path.{◌≡◌}
 use mathlib.Core.Bool.{Bool}
 use mathlib.Core.List.{List}
-use native.Mathlib.Omega.{arith}
 use Rattle.arena.proofs.Only.{only_none, only_trans}
 use Rattle.tree.specs.inner.Climb.{Standing, on_climbed}
 use Rattle.tree.specs.inner.Kept.{TreeOnly}

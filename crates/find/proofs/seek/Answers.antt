@@ -1,4 +1,3 @@
-use Prim.Native.Nat.{◌-◌}
 use native.Mathlib.Omega.{arith}
 use Rattle.arena.specs.inner.Budget.{budget}
 use Rattle.find.proofs.SeekTurns.{none, start, spent, outside, equal, beside, down}

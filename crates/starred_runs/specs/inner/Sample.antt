@@ -1,6 +1,6 @@
 -- One short history written out by hand, to see that the definitions read as they are meant: a replacement, refusals, a removal,
 -- a slot used again and one retired, and a laying out that begins anew. A reader may rely on this: proofs/Sample computes and compares.
-use Rattle.std.specs.Prelude.{Bool, true, List, [], ◌∷◌, ℕ}
+use Rattle.std.specs.Prelude.{true, List, [], ◌∷◌, ℕ}
 use Rattle.rules.specs.Queue.{handle, fresh}
 use Rattle.rules.specs.Insert.{normal}
 use Rattle.rules.specs.Calls.{Call, inserts, removal, laying_out, looks, foresees, reading, searching, run}

@@ -1,5 +1,5 @@
 use borrow.Author.Rules.{rules}
-use Rattle.arena.proofs.KeyWords.{Below, below, Above, above, flip_cast, flip-fits, flip_is, plain_cast, plain_fits, plain-is}
+use Rattle.arena.proofs.KeyWords.{below, above, flip_cast, flip-fits, flip_is, plain_cast, plain_fits, plain-is}
 use Rattle.arena.proofs.keys.stored_key.Goals as goal
 
 pub overflow_cast-result : goal.overflow_cast-result

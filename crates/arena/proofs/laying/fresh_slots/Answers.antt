@@ -1,4 +1,3 @@
-use Prim.Native.Nat.{◌-◌}
 use native.Mathlib.Omega.{arith}
 use Rattle.arena.proofs.LayingTurns.{slots-start, slots-turn, slots_end}
 use Rattle.arena.proofs.laying.fresh_slots.Goals as goal

@@ -1,5 +1,4 @@
 use mathlib.Core.Path.{refl}
-use Prim.Native.Nat.{◌-◌}
 use native.Mathlib.Omega.{arith}
 use Rattle.arena.proofs.LayingTurns.{zero_turn, zero_end}
 use Rattle.arena.proofs.laying.zero_header.Goals as goal

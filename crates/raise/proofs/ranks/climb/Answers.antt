@@ -1,5 +1,4 @@
 use mathlib.Core.Path.{refl}
-use Prim.Native.Nat.{◌-◌}
 use native.Mathlib.Omega.{arith}
 use Rattle.arena.specs.inner.Budget.{budget}
 use Rattle.tree.proofs.Climb.{up-low, up-side}
