@@ -1,4 +1,3 @@
 #![tactic(auto)]
 
 // Demand 3 of the store: definitions in specs/, the theorem in proofs/. No code.
-#![tactic(auto)]

@@ -1,6 +1,7 @@
 // The public calls as a static library, for tests in Rust and C: a number passes as itself, a slice as a pointer and a length, and
 // an answer as a code with a row of four numbers (specs/inner/Told.antt). Each function is equal to its call's model on any words.
 #![tactic(auto)]
+
 mod telling;
 
 ghost use Rattle.std.specs.Prelude.{◌≡◌};

@@ -1,4 +1,3 @@
 #![tactic(auto)]
 
 // Insertion on a store that holds a queue does what document 01 says: theorems in proofs/. No code.
-#![tactic(auto)]

@@ -2,6 +2,7 @@
 // header first and answers 5 where it fails. Each call is equal to its model in specs/ on any words at all.
 // From the Rust: ord/simple_ord_arena.rs.
 #![tactic(auto)]
+
 pub mod cursor;
 pub mod looking;
 pub mod placing;

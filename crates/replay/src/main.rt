@@ -118,6 +118,14 @@ fn main(rt: HostRuntime) {
     let mut t = [0u64; TABLE];
     let mut o = io::large_buffer();
     let mut at: usize = 0;
-    serve_all(rt.stdin(), &mut part, &mut line, &mut s, &mut t, &mut o, &mut at);
+    serve_all(
+        rt.stdin(),
+        &mut part,
+        &mut line,
+        &mut s,
+        &mut t,
+        &mut o,
+        &mut at,
+    );
     out::flush(&mut o, &mut at);
 }

@@ -1,4 +1,3 @@
 #![tactic(auto)]
 
 // No code: this crate is the theory of the ranked tree, in specs/ and proofs/.
-#![tactic(auto)]
