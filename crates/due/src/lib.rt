@@ -30,37 +30,37 @@ pub const DRUM_LOW: i64 = 0;
 pub const DRUM_HIGH: i64 = 7;
 
 // Days from 1970-01-01, by the clock at some offset.
-#[derive(Drop)]
+#[derive(Clone, Copy)]
 pub struct Day(pub i64);
 
 // Seconds into such a day.
-#[derive(Drop)]
+#[derive(Clone, Copy)]
 pub struct Second(pub i64);
 
 // How many seconds east of Greenwich a clock runs.
-#[derive(Drop)]
+#[derive(Clone, Copy)]
 pub struct Offset(pub i64);
 
 // Which drum strikes. Of two at one second the lower strikes first.
-#[derive(Drop)]
+#[derive(Clone, Copy)]
 pub struct Drum(pub i64);
 
 // A local time.
-#[derive(Drop)]
+#[derive(Clone, Copy)]
 pub struct Time {
     pub day: Day,
     pub second: Second,
 }
 
 // The key, or refusal 6.
-#[derive(Drop)]
+#[derive(Clone, Copy)]
 pub enum KeyAnswer {
     At(Key),
     BadTime,
 }
 
 // The local time and the drum, or refusal 6.
-#[derive(Drop)]
+#[derive(Clone, Copy)]
 pub enum TimeAnswer {
     At(Time, Drum),
     BadTime,

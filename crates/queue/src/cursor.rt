@@ -11,12 +11,12 @@ use chain::Stepped;
 use handle::{Handle, Refusal};
 
 // Stands at the entry that the handle names.
-#[derive(Drop)]
+#[derive(Clone, Copy)]
 pub struct Cursor {
     pub handle: Handle,
 }
 
-#[derive(Drop)]
+#[derive(Clone, Copy)]
 pub enum Moved {
     At(Cursor),
     End,

@@ -14,7 +14,7 @@ use remove::reading;
 
 // What a search answers: the entry with an equal key, or the last one looked at and the side of it on which the key lies. The
 // number is how many entries were looked at.
-#[derive(Drop)]
+#[derive(Clone, Copy)]
 pub enum Searched {
     Equal(Handle, u64),
     Beside(Handle, Side, u64),
