@@ -1,6 +1,5 @@
-use Rattle.host_numbers.specs.inner.Told.{moved_told}
 use Rattle.host_numbers.proofs.Told.{by-looks}
 use Rattle.host_numbers.proofs.hosted_first.Goals as goal
 
 pub returns : goal.returns
-returns c = by-looks moved_told _ _ _ c.first-r.ensures.does c.moved.ensures
+returns c = search (by-looks)

@@ -1,5 +1,5 @@
-use Rattle.std.proofs.Math.Facts.{to_z-of_z}
 use Rattle.host_numbers.specs.inner.Told.{inserted_told}
+use mir.Facts.{to_z-of_z}
 use Rattle.host_numbers.proofs.Told.{by-stores}
 use Rattle.host_numbers.proofs.hosted_insert_manual.Goals as goal
 

@@ -1,5 +1,5 @@
-use Rattle.std.proofs.Math.Facts.{to_z-of_z}
 use Rattle.host_numbers.specs.inner.Told.{ahead_told}
+use mir.Facts.{to_z-of_z}
 use Rattle.host_numbers.proofs.Told.{by-looks}
 use Rattle.host_numbers.proofs.hosted_look_ahead.Goals as goal
 

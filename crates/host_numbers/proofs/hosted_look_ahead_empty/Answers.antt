@@ -1,5 +1,5 @@
-use Rattle.std.specs.Prelude.{pos}
 use Rattle.host_numbers.specs.inner.Told.{ahead_told}
+use lib.IntN.{pos}
 use Rattle.host_numbers.proofs.Told.{by-looks}
 use Rattle.host_numbers.proofs.hosted_look_ahead_empty.Goals as goal
 

@@ -1,4 +1,4 @@
-use Rattle.std.proofs.Math.Facts.{to_z-of_z}
+use mir.Facts.{to_z-of_z}
 use Rattle.host_numbers.specs.inner.Told.{searched_told}
 use Rattle.host_numbers.proofs.Told.{by-looks}
 use Rattle.host_numbers.proofs.hosted_search.Goals as goal
