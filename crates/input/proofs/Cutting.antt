@@ -40,14 +40,14 @@ module _ (s : List ℕ) (i j : ℕ) where
 
 pub ruleset cutting = (skip_on, skip_stop, skip_end, pass_on, pass_stop, pass_end)
 
-others-le : (l : List ℕ) → others l ≤ length l
+others_le : (l : List ℕ) → others l ≤ length l
 unfolding others
-others-le [] = omega arith
-others-le (b ∷ bs) = others-le-by bs (eqb b 32) (others-le bs)
+others_le [] = omega arith
+others_le (b ∷ bs) = others_le_by bs (eqb b 32) (others_le bs)
   where
-    others-le-by : (bs : List ℕ) (t : Bool) → others bs ≤ length bs → ifte t 0 (suc (others bs)) ≤ suc (length bs)
-    others-le-by bs true h = omega arith
-    others-le-by bs false h = omega arith
+    others_le_by : (bs : List ℕ) (t : Bool) → others bs ≤ length bs → ifte t 0 (suc (others bs)) ≤ suc (length bs)
+    others_le_by bs true h = omega arith
+    others_le_by bs false h = omega arith
 
 -- where the spaces end before the bytes do, another byte stands
 other_after : (l : List ℕ) → spaces l < length l → 1 ≤ others (drop (spaces l) l)
@@ -68,11 +68,11 @@ field_in s from a e p h q =
     let m : spaces (drop from s) < length (drop from s) = omega arith in
     let d : drop (spaces (drop from s)) (drop from s) ≡ drop a s = rw (drop-drop, p) refl in
     let o : 1 ≤ others (drop a s) = rw d at (other_after (drop from s) m) in
-    let t : others (drop a s) ≤ length s - a = rw length-drop at (others-le (drop a s)) in
+    let t : others (drop a s) ≤ length s - a = rw length-drop at (others_le (drop a s)) in
     (omega arith, omega arith)
 
-pub field-some : (s : List ℕ) (from a e : ℕ) → a ≡ skipped s from → a < length s → e ≡ passed s a → a < e
-field-some s from a e p h q = (field_in s from a e p h q).0
+pub field_some : (s : List ℕ) (from a e : ℕ) → a ≡ skipped s from → a < length s → e ≡ passed s a → a < e
+field_some s from a e p h q = (field_in s from a e p h q).0
 
 pub field_end : (s : List ℕ) (from a e : ℕ) → a ≡ skipped s from → a < length s → e ≡ passed s a → e ≤ length s
 field_end s from a e p h q = (field_in s from a e p h q).1

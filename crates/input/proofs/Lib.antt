@@ -2,4 +2,3 @@ pub mod Cutting
 pub mod Reading
 pub mod Signs
 pub mod Parts
-pub mod Fitting

@@ -1,12 +1,10 @@
 -- What a field that was found tells, and what is made of its bytes.
-use Prim.Native.Nat.{ℕ, ◌<◌, ◌≤◌}
+use Prim.Native.Nat.{ℕ}
 use mathlib.Core.Path.{◌≡◌}
 use mathlib.Core.List.{List}
-use native.Mathlib.Omega.{arith}
-use lib.ListN.{length}
 use Rattle.handle.specs.declared.Key.{Key}
 use Rattle.input.specs.inner.Numbers.{unsigned_of, signed_of}
-use Rattle.input.specs.inner.Fields.{next_field, InLine, part, number_field, key_field}
+use Rattle.input.specs.inner.Fields.{next_field, part, number_field, key_field}
 use Rattle.input.specs.declared.fields.Field.{Field}
 use Rattle.input.specs.declared.fields.Field.TheVariants.{At, Nothing}
 use Rattle.input.specs.declared.numbers.Number.{Number}
@@ -16,29 +14,14 @@ use Rattle.input.specs.declared.numbers.SignedNumber as S
 use Rattle.input.specs.declared.fields.NumberField as NF
 use Rattle.input.specs.declared.fields.KeyField as KF
 
-module _ (s : List ℕ) (f : Field) (a e : ℕ) where
-  in_line : f ≡ At a e → InLine s f → (a < e) × (e ≤ length s)
-  in_line p h = rw p at h
-
-  pub start-before : f ≡ At a e → InLine s f → a ≤ e
-  start-before p h = let k : (a < e) × (e ≤ length s) = in_line p h in omega arith
-
-  pub end_within : f ≡ At a e → InLine s f → e ≤ length s
-  end_within p h = let k : (a < e) × (e ≤ length s) = in_line p h in omega arith
-
-  pub start-within : f ≡ At a e → InLine s f → a < length s
-  start-within p h = let k : (a < e) × (e ≤ length s) = in_line p h in omega arith
-
-pub ruleset found = (start-before, end_within, start-within)
-
 module _ (s : List ℕ) (from : ℕ) (f : Field) (here : f ≡ next_field s from) where
   pub no_number : f ≡ Nothing → NF.TheVariants.Bad ≡ number_field s from
   unfolding number_field
   no_number p = rw (← here, p)
 
-  pub no_key_lem : f ≡ Nothing → KF.TheVariants.Bad ≡ key_field s from
+  pub no_key : f ≡ Nothing → KF.TheVariants.Bad ≡ key_field s from
   unfolding key_field
-  no_key_lem p = rw (← here, p)
+  no_key p = rw (← here, p)
 
   module _ (a e : ℕ) (at : f ≡ At a e) where
     pub number_is : (n : Number) (v : ℕ) → n ≡ unsigned_of (part s a e) → n ≡ N.TheVariants.Is v →
@@ -50,10 +33,10 @@ module _ (s : List ℕ) (from : ℕ) (f : Field) (here : f ≡ next_field s from
     unfolding number_field
     number_bad n p q = rw (← here, at, ← p, q)
 
-    pub key-is : (n : SignedNumber) (v : Key) → n ≡ signed_of (part s a e) → n ≡ S.TheVariants.Is v →
+    pub key_is : (n : SignedNumber) (v : Key) → n ≡ signed_of (part s a e) → n ≡ S.TheVariants.Is v →
         KF.TheVariants.Is v e ≡ key_field s from
     unfolding key_field
-    key-is n v p q = rw (← here, at, ← p, q)
+    key_is n v p q = rw (← here, at, ← p, q)
 
     pub key_bad : (n : SignedNumber) → n ≡ signed_of (part s a e) → n ≡ S.TheVariants.Bad → KF.TheVariants.Bad ≡ key_field s from
     unfolding key_field

@@ -16,9 +16,9 @@ unfolding digit_of
 digit_is b w e h k = rw (e, le-ltb b 48 h, le-ltb 57 b k)
 
 module _ (s : List ℕ) (i v d : ℕ) (n : Number) where
-  pub read-no_digit : i < length s → d ≡ digit_of (get_or s i 0) → 9 < d → read_on (drop i s) v ≡ n → Bad ≡ n
+  pub read_no_digit : i < length s → d ≡ digit_of (get_or s i 0) → 9 < d → read_on (drop i s) v ≡ n → Bad ≡ n
   unfolding read_on
-  read-no_digit h e k p = rw (← p, drop-cons s i 0 h, ← e, lt-ltb 9 d k)
+  read_no_digit h e k p = rw (← p, drop-cons s i 0 h, ← e, lt-ltb 9 d k)
 
   read_over : i < length s → d ≡ digit_of (get_or s i 0) → d ≤ 9 → 18446744073709551615 < v * 10 + d →
       read_on (drop i s) v ≡ n → Bad ≡ n

@@ -32,16 +32,16 @@ module _ (n : Number) (v : ℕ) (e : n ≡ N.TheVariants.Is v) where
   pub below_bad : 9223372036854775808 < v → S.TheVariants.Bad ≡ below_of n
   below_bad h = rw (e, lt-ltb 9223372036854775808 v h)
 
-  pub below-is : (k : Key) → v ≤ 9223372036854775808 → k.0 ≡ signed (9223372036854775808 - v) →
+  pub below_is : (k : Key) → v ≤ 9223372036854775808 → k.0 ≡ signed (9223372036854775808 - v) →
       S.TheVariants.Is k ≡ below_of n
-  below-is k h p = rw (e, le-ltb 9223372036854775808 v h, ← signed_below v h, ← p)
+  below_is k h p = rw (e, le-ltb 9223372036854775808 v h, ← signed_below v h, ← p)
 
   pub above_bad : 9223372036854775807 < v → S.TheVariants.Bad ≡ above_of n
   above_bad h = rw (e, lt-ltb 9223372036854775807 v h)
 
-  pub above-is : (k : Key) → v ≤ 9223372036854775807 → k.0 ≡ signed (9223372036854775808 + v) →
+  pub above_is : (k : Key) → v ≤ 9223372036854775807 → k.0 ≡ signed (9223372036854775808 + v) →
       S.TheVariants.Is k ≡ above_of n
-  above-is k h p = rw (e, le-ltb 9223372036854775807 v h, ← signed_above v, ← p)
+  above_is k h p = rw (e, le-ltb 9223372036854775807 v h, ← signed_above v, ← p)
 
 module _ (s : List ℕ) (n : Number) (r : SignedNumber) where
   pub minus_so : 1 ≤ length s → get_or s 0 0 ≡ 45 → n ≡ unsigned_of (take (length s - 1) (drop 1 s)) → r ≡ below_of n → r ≡ signed_of s

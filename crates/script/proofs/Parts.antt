@@ -17,24 +17,24 @@ use Rattle.script.specs.declared.sides.SideField as SF
 use Rattle.script.specs.inner.Sides.{side_at, side_read, side_field}
 
 module _ (s : List ℕ) (n : SignedNumber) (here : n ≡ signed_of s) where
-  pub no-side_so : n ≡ S.TheVariants.Bad → D.TheVariants.Bad ≡ side_read s
+  pub no_side_so : n ≡ S.TheVariants.Bad → D.TheVariants.Bad ≡ side_read s
   unfolding side_read
-  no-side_so p = rw (← here, p)
+  no_side_so p = rw (← here, p)
 
   pub side_so : (k : Key) (w : ℕ) (d : SideNumber) → n ≡ S.TheVariants.Is k → w ≡ stored k.0 → d ≡ side_at w → d ≡ side_read s
   unfolding side_read
   side_so k w d p q g = rw (← here, p, ← q, g)
 
 module _ (s : List ℕ) (from : ℕ) (f : Field) (here : f ≡ next_field s from) where
-  pub no-side : f ≡ Nothing → SF.TheVariants.Bad ≡ side_field s from
+  pub no_side : f ≡ Nothing → SF.TheVariants.Bad ≡ side_field s from
   unfolding side_field
-  no-side p = rw (← here, p)
+  no_side p = rw (← here, p)
 
   module _ (a e : ℕ) (at : f ≡ At a e) where
-    pub side-is : (n : SideNumber) (v : Side) → n ≡ side_read (part s a e) → n ≡ D.TheVariants.Is v →
+    pub side_is : (n : SideNumber) (v : Side) → n ≡ side_read (part s a e) → n ≡ D.TheVariants.Is v →
         SF.TheVariants.Is v e ≡ side_field s from
     unfolding side_field
-    side-is n v p q = rw (← here, at, ← p, q)
+    side_is n v p q = rw (← here, at, ← p, q)
 
     pub side_bad : (n : SideNumber) → n ≡ side_read (part s a e) → n ≡ D.TheVariants.Bad → SF.TheVariants.Bad ≡ side_field s from
     unfolding side_field

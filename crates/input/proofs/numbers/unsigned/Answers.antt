@@ -1,5 +1,5 @@
 use Rattle.arena.proofs.Paths.{paths}
-use Rattle.input.proofs.Reading.{read-no_digit, read_tens_over, read_digit_over, read_more, read_end}
+use Rattle.input.proofs.Reading.{read_no_digit, read_tens_over, read_digit_over, read_more, read_end}
 use Rattle.input.specs.inner.Numbers.{unsigned_of}
 use Rattle.input.proofs.numbers.unsigned.Goals as goal
 
@@ -9,7 +9,7 @@ returns-then-s-lt1 c = search paths depth 12
 
 pub returns-then-d-gt9 : goal.returns-then-d-gt9
 unfolding unsigned_of
-returns-then-d-gt9 c = search (read-no_digit, paths) depth 12
+returns-then-d-gt9 c = search (read_no_digit, paths) depth 12
 
 pub returns-then-v-gt1844674407370955161 : goal.returns-then-v-gt1844674407370955161
 unfolding unsigned_of

@@ -1,10 +1,10 @@
 use Rattle.arena.proofs.Paths.{paths}
-use Rattle.script.proofs.Parts.{no-side_so, side_so}
+use Rattle.script.proofs.Parts.{no_side_so, side_so}
 use Rattle.script.specs.inner.Sides.{side_at}
 use Rattle.script.proofs.sides.side.Goals as goal
 
 pub returns-in_default : goal.returns-in_default
-returns-in_default c = search no-side_so
+returns-in_default c = search no_side_so
 
 pub returns-then-w-eq9223372036854775807 : goal.returns-then-w-eq9223372036854775807
 unfolding side_at
