@@ -1,5 +1,6 @@
-// Standard input, a line at a time. The caller lends the bytes of one read (`part`) and those of one line, and holds a reader.
-// What stands behind the last newline is a line too. Every call is safe with any reader.
+// Standard input, a line at a time: `main` has it of the system and passes it on. The caller lends the bytes of one read
+// (`part`) and those of one line, and holds a reader. What stands behind the last newline is a line too. Every call is safe
+// with any reader.
 ghost use Rattle.std.specs.Prelude.{length};
 ghost use Rattle.input.specs.inner.Lines.{LineFits};
 
