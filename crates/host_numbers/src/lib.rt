@@ -1,4 +1,4 @@
-// The public calls as a static library, for tests in Rust and C: a number passes as itself, a slice as a pointer and a length, and
+// The public calls for hosts in Rust and C, which crate host_numbers_c exports: a number passes as itself, a slice as a pointer and a length, and
 // an answer as a code with a row of four numbers (specs/inner/Told.antt). Each function is equal to its call's model on any words.
 #![tactic(auto)]
 
@@ -40,39 +40,34 @@ fn handle_of(slot: u64, generation: u64) -> Handle
     }
 }
 
-#[unsafe(no_mangle)]
-pub extern "C" fn hosted_sound(s: &[u64]) -> bool
+pub fn hosted_sound(s: &[u64]) -> bool
     ensures { Decides s.now result }
 {
     sound::sound(s)
 }
 
-#[unsafe(no_mangle)]
-pub extern "C" fn hosted_lay_out(s: &mut [u64], capacity: u64, top: u64) -> u64
+pub fn hosted_lay_out(s: &mut [u64], capacity: u64, top: u64) -> u64
     ensures { (s.new, result) ≡ stores laid_out_told (lay_out_words s.old capacity top) }
 {
     let r = placing::lay_out(s, capacity, top);
     telling::laid_out(r)
 }
 
-#[unsafe(no_mangle)]
-pub extern "C" fn hosted_insert(s: &mut [u64], key: i64, value: u64, a: &mut [u64; 4]) -> u64
+pub fn hosted_insert(s: &mut [u64], key: i64, value: u64, a: &mut [u64; 4]) -> u64
     ensures { (s.new, (result, a.new)) ≡ stores inserted_told (insert_call s.old key value) }
 {
     let r = placing::insert(s, Key(key), value);
     telling::inserted(a, r)
 }
 
-#[unsafe(no_mangle)]
-pub extern "C" fn hosted_insert_empty(s: &mut [u64], key: i64, value: u64, a: &mut [u64; 4]) -> u64
+pub fn hosted_insert_empty(s: &mut [u64], key: i64, value: u64, a: &mut [u64; 4]) -> u64
     ensures { (s.new, (result, a.new)) ≡ stores inserted_told (empty_call s.old key value) }
 {
     let r = placing::insert_empty(s, Key(key), value);
     telling::inserted(a, r)
 }
 
-#[unsafe(no_mangle)]
-pub extern "C" fn hosted_insert_manual(
+pub fn hosted_insert_manual(
     s: &mut [u64],
     slot: u64,
     generation: u64,
@@ -89,24 +84,21 @@ pub extern "C" fn hosted_insert_manual(
     telling::inserted(a, r)
 }
 
-#[unsafe(no_mangle)]
-pub extern "C" fn hosted_look_ahead(s: &[u64], key: i64, a: &mut [u64; 4]) -> u64
+pub fn hosted_look_ahead(s: &[u64], key: i64, a: &mut [u64; 4]) -> u64
     ensures { (result, a.new) ≡ tells ahead_told (ahead_call s.now key) }
 {
     let r = placing::look_ahead(s, Key(key));
     telling::ahead(a, r)
 }
 
-#[unsafe(no_mangle)]
-pub extern "C" fn hosted_look_ahead_empty(s: &[u64], a: &mut [u64; 4]) -> u64
+pub fn hosted_look_ahead_empty(s: &[u64], a: &mut [u64; 4]) -> u64
     ensures { (result, a.new) ≡ tells ahead_told (ahead_empty_call s.now) }
 {
     let r = placing::look_ahead_empty(s);
     telling::ahead(a, r)
 }
 
-#[unsafe(no_mangle)]
-pub extern "C" fn hosted_look_ahead_manual(
+pub fn hosted_look_ahead_manual(
     s: &[u64],
     slot: u64,
     generation: u64,
@@ -122,8 +114,7 @@ pub extern "C" fn hosted_look_ahead_manual(
     telling::ahead(a, r)
 }
 
-#[unsafe(no_mangle)]
-pub extern "C" fn hosted_remove(s: &mut [u64], slot: u64, generation: u64, a: &mut [u64; 4]) -> u64
+pub fn hosted_remove(s: &mut [u64], slot: u64, generation: u64, a: &mut [u64; 4]) -> u64
     ensures { (s.new, (result, a.new)) ≡ stores removed_told (remove_call s.old (handle_with slot generation)) }
 {
     let h = handle_of(slot, generation);
@@ -131,8 +122,7 @@ pub extern "C" fn hosted_remove(s: &mut [u64], slot: u64, generation: u64, a: &m
     telling::removed(a, r)
 }
 
-#[unsafe(no_mangle)]
-pub extern "C" fn hosted_read(s: &[u64], slot: u64, generation: u64, a: &mut [u64; 4]) -> u64
+pub fn hosted_read(s: &[u64], slot: u64, generation: u64, a: &mut [u64; 4]) -> u64
     ensures { (result, a.new) ≡ tells reading_told (read_call s.now (handle_with slot generation)) }
 {
     let h = handle_of(slot, generation);
@@ -140,32 +130,28 @@ pub extern "C" fn hosted_read(s: &[u64], slot: u64, generation: u64, a: &mut [u6
     telling::reading(a, r)
 }
 
-#[unsafe(no_mangle)]
-pub extern "C" fn hosted_search(s: &[u64], key: i64, a: &mut [u64; 4]) -> u64
+pub fn hosted_search(s: &[u64], key: i64, a: &mut [u64; 4]) -> u64
     ensures { (result, a.new) ≡ tells searched_told (search_call s.now key) }
 {
     let r = looking::search(s, Key(key));
     telling::searched(a, r)
 }
 
-#[unsafe(no_mangle)]
-pub extern "C" fn hosted_first(s: &[u64], a: &mut [u64; 4]) -> u64
+pub fn hosted_first(s: &[u64], a: &mut [u64; 4]) -> u64
     ensures { (result, a.new) ≡ tells moved_told (start_call s.now 0) }
 {
     let r = Cursor::first(s);
     telling::moved(a, r)
 }
 
-#[unsafe(no_mangle)]
-pub extern "C" fn hosted_last(s: &[u64], a: &mut [u64; 4]) -> u64
+pub fn hosted_last(s: &[u64], a: &mut [u64; 4]) -> u64
     ensures { (result, a.new) ≡ tells moved_told (start_call s.now 1) }
 {
     let r = Cursor::last(s);
     telling::moved(a, r)
 }
 
-#[unsafe(no_mangle)]
-pub extern "C" fn hosted_at(s: &[u64], slot: u64, generation: u64, a: &mut [u64; 4]) -> u64
+pub fn hosted_at(s: &[u64], slot: u64, generation: u64, a: &mut [u64; 4]) -> u64
     ensures { (result, a.new) ≡ tells moved_told (stand_call s.now (handle_with slot generation)) }
 {
     let h = handle_of(slot, generation);
@@ -173,8 +159,7 @@ pub extern "C" fn hosted_at(s: &[u64], slot: u64, generation: u64, a: &mut [u64;
     telling::moved(a, r)
 }
 
-#[unsafe(no_mangle)]
-pub extern "C" fn hosted_forward(s: &[u64], slot: u64, generation: u64, a: &mut [u64; 4]) -> u64
+pub fn hosted_forward(s: &[u64], slot: u64, generation: u64, a: &mut [u64; 4]) -> u64
     ensures { (result, a.new) ≡ tells moved_told (step_call s.now (handle_with slot generation) 1) }
 {
     let h = handle_of(slot, generation);
@@ -183,8 +168,7 @@ pub extern "C" fn hosted_forward(s: &[u64], slot: u64, generation: u64, a: &mut 
     telling::moved(a, r)
 }
 
-#[unsafe(no_mangle)]
-pub extern "C" fn hosted_back(s: &[u64], slot: u64, generation: u64, a: &mut [u64; 4]) -> u64
+pub fn hosted_back(s: &[u64], slot: u64, generation: u64, a: &mut [u64; 4]) -> u64
     ensures { (result, a.new) ≡ tells moved_told (step_call s.now (handle_with slot generation) 0) }
 {
     let h = handle_of(slot, generation);

@@ -1,4 +1,4 @@
-//! The queue's calls for tests in Rust: each is a function of the static library host_numbers_c, which `rt lib` makes. An answer is a code
+//! The queue's calls for tests in Rust: each is a function of the static library that tests/host makes. An answer is a code
 //! and a row of four numbers, as crates/host_numbers/specs/inner/Told.antt says: 1 to 6 refuse, 16 and up answer.
 
 /// The code of laid out, new, equal, at, and of an entry that was read or removed.
