@@ -1,6 +1,6 @@
 -- From the inner models to the public promises: a call that tests the header first, keeps what lies past the needed words, and does
 -- what document 01 says on a store that holds a queue.
-use Prim.Native.Nat.{ℕ, ◌≤◌}
+use Prim.Native.Nat.{ℕ}
 use mathlib.Core.Path.{◌≡◌, refl, ◌∙◌, ap, subst⁻¹}
 use mathlib.Core.List.{List}
 use lib.ListN.{length, get_or}

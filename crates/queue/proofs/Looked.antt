@@ -18,7 +18,6 @@ use Rattle.wavl.specs.Search.{equal_to, nearest, empty_tree, answer_at, search}
 use Rattle.wavl.specs.Search as Search
 use Rattle.rules.specs.Queue.{Queue}
 use Rattle.rules.specs.Place.{Spot, nowhere, spot, spot_of}
-use Rattle.rules.specs.Answers.{SearchAnswer}
 use Rattle.rules.specs.Look.{search_for, stand_first, stand_last, stand_spot, stand_at, step_spot, step_to}
 use Rattle.queue_of_store.specs.Ends.{number}
 use Rattle.queue_of_store.specs.Handles.{plain}

@@ -23,7 +23,6 @@ use Rattle.handle.specs.declared.Removed as X
 use Rattle.handle.specs.declared.Reading as R
 use Rattle.rules.specs.Queue.{Queue}
 use Rattle.queue_of_store.specs.Handles.{plain}
-use Rattle.queue_of_store.specs.Holds.{Holds}
 use Rattle.queue_of_store.proofs.SameStore.{same_store}
 use Rattle.insert_means.specs.Meaning.{inserted_means, ahead_means, side_means}
 use Rattle.remove_means.specs.Meaning.{removed_means, read_means}

@@ -1,9 +1,8 @@
 -- The public promises, call by call, from the equality with the model.
 use Prim.Native.Nat.{ℕ, ◌≤◌, ◌<◌}
 use native.Mathlib.Omega.{arith}
-use mathlib.Core.Path.{◌≡◌, refl, ◌∙◌, ap, subst⁻¹}
+use mathlib.Core.Path.{◌≡◌, refl}
 use mathlib.Core.Logic.{◌↔◌}
-use mathlib.Core.Bool.{Bool, true, false}
 use mathlib.Core.List.{List}
 use lib.IntN.{ℤ}
 use lib.ListN.{length}
@@ -14,12 +13,9 @@ use Rattle.handle.specs.declared.Handle.{Handle}
 use Rattle.handle.specs.declared.Side.{Side}
 use Rattle.handle.specs.declared.Refusal.TheVariants.{BadLayout}
 use Rattle.arena.specs.Words.{need}
-use Rattle.arena.specs.Keys.{stored}
-use Rattle.arena.specs.Laying.{GoodLayout, Fresh}
-use Rattle.arena.specs.inner.Laying.{laid_words, lay_out_words}
+use Rattle.arena.specs.Laying.{GoodLayout}
+use Rattle.arena.specs.inner.Laying.{lay_out_words}
 use Rattle.handle.specs.declared.LaidOut.{LaidOut}
-use Rattle.handle.specs.declared.LaidOut.TheVariants as L
-use Rattle.arena.proofs.Theorems.{laid-is, lays-out, refuses}
 use Rattle.chain.specs.inner.Steps.{end_of}
 use Rattle.arena.specs.inner.Only.{Only}
 use Rattle.arena.proofs.Only.{only_weaken}
@@ -32,17 +28,12 @@ use Rattle.remove.specs.inner.Remove.{remove_by, read_by}
 use Rattle.handle.specs.declared.Removed.{Removed}
 use Rattle.handle.specs.declared.Reading.{Reading}
 use Rattle.remove.proofs.RemoveLeaves.{remove-kept}
-use Rattle.rules.specs.Queue.{Queue, fresh}
 use Rattle.rules.specs.LayOut as Rules
-use Rattle.rules.proofs.History.{good_fact, not_good, lay_done, lay_refused}
-use Rattle.queue_of_store.specs.Holds.{Holds}
-use Rattle.queue_of_store.proofs.FreshQueue.{fresh_holds}
 use Rattle.insert_means.proofs.Theorems.{normal-means, normal-ahead, empty-means, empty-ahead, manual-means, manual-ahead}
 use Rattle.remove_means.proofs.Means.{remove-means, read-means}
 use Rattle.queue.specs.Promises.{enough_in}
-use Rattle.queue.specs.Readings.{laid_means}
 use Rattle.queue.specs.Promised.{NeedPromise, LayOutPromise, InsertPromise, EmptyPromise, ManualPromise, AheadPromise, AheadEmptyPromise, AheadManualPromise, RemovePromise, ReadPromise, SearchPromise, FirstPromise, LastPromise, AtPromise, BackPromise, ForwardPromise}
-use Rattle.queue.specs.inner.Looking.{searched, search_call, read_call}
+use Rattle.queue.specs.inner.Looking.{search_call, read_call}
 use Rattle.queue.specs.inner.Moving.{moved_to, start_call, stand_in, stand_call, step_in, step_call}
 use Rattle.queue.specs.inner.Placing.{insert_call, empty_call, manual_call, ahead_call, ahead_empty_call, ahead_manual_call}
 use Rattle.queue.specs.inner.Taking.{remove_call}
