@@ -1,6 +1,7 @@
 pub mod CallReads
 pub mod Looked
 pub mod Keeping
+pub mod LayingOut
 pub mod Promising
 pub mod Single
 pub mod OneMeaning

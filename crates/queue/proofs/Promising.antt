@@ -49,6 +49,7 @@ use Rattle.queue.specs.inner.Taking.{remove_call}
 use Rattle.queue.specs.declared.looking.Searched.{Searched}
 use Rattle.queue.specs.declared.cursor.Moved.{Moved}
 use Rattle.queue.proofs.Keeping.{Keeps, writes, looks}
+use Rattle.queue.proofs.LayingOut.{laid_out, not_laid_lem, laid-means}
 use Rattle.queue.proofs.Looked.{on_held, search-means, first-is, last-is, stand_is, back_is, forward_is}
 
 -- how many numbers a capacity takes: out of its range on either side, and in it
@@ -66,7 +67,7 @@ module _ (capacity : ℕ) where
 module _ (s : List ℕ) where
   pub search-looks : (key : ℤ) (r : Searched) → r ≡ search_call s key → SearchPromise s key r
   unfolding search_call
-  search-looks key r e = looks _ s (λ cap. searched s cap (stored key)) _ _ r e (λ q k. search-means k key)
+  search-looks key r e = looks _ s _ _ _ r e (λ q k. search-means k key)
 
   pub read_looks : (h : Handle) (r : Reading) → r ≡ read_call s h → ReadPromise s h r
   unfolding read_call
@@ -142,25 +143,10 @@ good-one s cap top = (
 )
 
 module _ (s t : List ℕ) (r : LaidOut) (cap top : ℕ) (e : (t, r) ≡ lay_out_words s cap top) where
-  laid_out : GoodLayout (length s) cap top → (r ≡ L.Done) × Fresh s t cap top × Holds t (fresh cap top)
-  laid_out g =
-      let u : ◌≡◌ {A = List ℕ × LaidOut} (t, r) (laid_words s cap top, L.Done) = e ∙ lays-out s cap top g in
-      let f : Fresh s t cap top = subst⁻¹ (λ (x : List ℕ). Fresh s x cap top) (ap (λ x. x.0) u) (laid-is s cap top g.room) in
-      (ap (λ x. x.1) u, f, fresh_holds s t cap top f g)
-
-  not_laid_lem : ¬ GoodLayout (length s) cap top → (t ≡ s) × (r ≡ L.Refused BadLayout)
-  not_laid_lem n = let u = e ∙ refuses s cap top n in (ap (λ x. x.0) u, ap (λ x. x.1) u)
-
-  laid-means : (b : Bool) → Rules.good (enough_in s) cap top ≡ b → (q : Queue) → Holds s q
-      → (laid_means r ≡ (Rules.lay_out (enough_in s) cap top q).0) × Holds t (Rules.lay_out (enough_in s) cap top q).1
-  laid-means true f q k =
-      let g = good_fact (enough_in s) cap top f in
-      let m = laid_out ((good-one s cap top).1 g) in
-      rw (lay_done (enough_in s) cap top g q) (ap laid_means m.0, m.2)
-  laid-means false f q k =
-      let n = not_good (enough_in s) cap top f in
-      let m = not_laid_lem (λ g. n ((good-one s cap top).0 g)) in
-      rw (lay_refused (enough_in s) cap top n q) (ap laid_means m.1, subst⁻¹ (λ (x : List ℕ). Holds x q) m.0 k)
-
   pub lays : LayOutPromise s t cap top r
-  lays = record { does = e; lays = laid_out; refuses = not_laid_lem; means = laid-means (Rules.good (enough_in s) cap top) refl }
+  lays = record {
+    does = e;
+    lays = laid_out s t r cap top e;
+    refuses = not_laid_lem s t r cap top e;
+    means = laid-means s t r cap top e (good-one s cap top) (Rules.good (enough_in s) cap top) refl;
+  }
