@@ -13,26 +13,26 @@ pub const LIMIT: u64 = 1024;
 pub const TOP_LIMIT: u64 = 4294967295;
 
 // A place for one entry in the store: 0 and up, below the capacity.
-#[derive(Clone, Copy)]
+#[derive(Clone, Copy, Debug, PartialEq, Eq)]
 pub struct Slot(pub u64);
 
 // Which life of its slot an entry is: 1 at first, one more after each removal.
-#[derive(Clone, Copy)]
+#[derive(Clone, Copy, Debug, PartialEq, Eq)]
 pub struct Generation(pub u64);
 
 // Where an entry stands in the queue's order: any signed 64-bit number.
-#[derive(Clone, Copy)]
+#[derive(Clone, Copy, Debug, PartialEq, Eq)]
 pub struct Key(pub i64);
 
 // What names one entry for good: its slot, and the generation of the slot that it lives in.
-#[derive(Clone, Copy)]
+#[derive(Clone, Copy, Debug, PartialEq, Eq)]
 pub struct Handle {
     pub slot: Slot,
     pub generation: Generation,
 }
 
 // The side of an entry on which a key lies.
-#[derive(Clone, Copy)]
+#[derive(Clone, Copy, Debug, PartialEq, Eq)]
 pub enum Side {
     Less,
     Equal,
@@ -40,7 +40,7 @@ pub enum Side {
 }
 
 // Why a call says no. `refusal_number` of specs/Numbers.antt gives document 01's number of each.
-#[derive(Clone, Copy)]
+#[derive(Clone, Copy, Debug, PartialEq, Eq)]
 pub enum Refusal {
     NotWithinCapacity,
     FailedOrdRequirement,
@@ -51,54 +51,31 @@ pub enum Refusal {
 }
 
 // What an entry holds.
-#[derive(Clone, Copy)]
+#[derive(Clone, Copy, Debug, PartialEq, Eq)]
 pub struct Entry {
     pub key: Key,
     pub value: u64,
 }
 
-// How many numbers a capacity takes, or 4.
-#[derive(Clone, Copy)]
-pub enum Needed {
-    Numbers(u64),
-    Refused(Refusal),
-}
-
-#[derive(Clone, Copy)]
-pub enum LaidOut {
-    Done,
-    Refused(Refusal),
-}
-
 // "Any insertion answers New or Replacing with the handle, and the old value if replacing."
-#[derive(Clone, Copy)]
+#[derive(Clone, Copy, Debug, PartialEq, Eq)]
 pub enum Inserted {
     New(Handle),
     Replacing(Handle, u64),
-    Refused(Refusal),
 }
 
-// What an insertion would answer next: "New or Replacing with the handle, or the refusal".
-#[derive(Clone, Copy)]
+// What an insertion would answer next: "New or Replacing with the handle".
+#[derive(Clone, Copy, Debug, PartialEq, Eq)]
 pub enum Ahead {
     New(Handle),
     Replacing(Handle),
-    Refused(Refusal),
 }
 
-// The removed entry; the same with the note that its slot had the top generation and is retired; or why not.
-#[derive(Clone, Copy)]
+// The removed entry; or the same with the note that its slot had the top generation and is retired.
+#[derive(Clone, Copy, Debug, PartialEq, Eq)]
 pub enum Removed {
     Entry(Entry),
     GenerationOverflow(Entry),
-    Refused(Refusal),
-}
-
-// "Reading and removal answer key and value."
-#[derive(Clone, Copy)]
-pub enum Reading {
-    Entry(Entry),
-    Refused(Refusal),
 }
 
 impl Handle {
