@@ -9,7 +9,7 @@ use lib.ListN.{length}
 use borrow.Author.Tests.{lt-ltb, le-ltb, lt-leb, ltb-false}
 use Rattle.handle.specs.declared.Generation.{Generation}
 use Rattle.handle.specs.declared.Handle.{Handle}
-use Rattle.handle.specs.declared.Refusal.TheVariants.{BadLayout}
+use Rattle.handle.specs.declared.Refusal.TheVariants.{BadLayout, NotSound, NotWithinCapacity}
 use Rattle.arena.specs.Keys.{signed}
 use Rattle.handle.specs.Numbers.{limit, top_limit}
 use Rattle.handle.proofs.Limits.{limit-fits}
@@ -20,16 +20,11 @@ use Rattle.arena.specs.Laying.{GoodLayout}
 use Rattle.arena.specs.inner.Laying.{blank_of, good_layout, fresh_head, lay_slots, laid_words, lay_out_words}
 use Rattle.arena.specs.inner.Slots.{PeekedIn, handle_with, found_at, peek_from, peek_slot, popped, take_slot, pushed, free_with, free_slot}
 use Rattle.arena.specs.inner.Entries.{is_live, entry_of}
-use Rattle.arena.specs.declared.header.Header.{Header}
-use Rattle.arena.specs.declared.header.Header.TheVariants.{Passes, Fails}
-use Rattle.handle.specs.declared.LaidOut.{LaidOut}
-use Rattle.handle.specs.declared.LaidOut.TheVariants.{Done, Refused}
-use Rattle.arena.specs.declared.slots.Taken.{Taken}
-use Rattle.arena.specs.declared.slots.Taken as T
-use Rattle.arena.specs.declared.slots.Taken.TheVariants.{At, Full}
-use Rattle.arena.specs.declared.slots.Freed.{Freed}
 use Rattle.handle.specs.declared.Entry.{Entry}
 use Rattle.arena.proofs.Paths.{no_refusals, wrote}
+use Rattle.arena.specs.declared.slots.Freed.{Freed}
+use Rattle.std.specs.Prelude.{Result, Ok, Err, ⊤}
+use Rattle.handle.specs.declared.Refusal.{Refusal}
 
 -- a handle by its parts
 pub handle-is : (r : Handle) (i g g' : ℕ) → r.slot ≡ record { 0 = i } → r.generation ≡ record { 0 = g } → g ≡ g' → r ≡ handle_with i g'
@@ -37,11 +32,11 @@ handle-is r i g g' e f k = λ j. record { slot = e j; generation = (f ∙ ap {B 
 
 -- the header's capacity, as read
 module _ (s : List ℕ) (cap : ℕ) (e : cap ≡ head s CAPACITY) (long : head_words ≤ length s) (some : 1 ≤ cap) (few : cap ≤ limit) where
-  pub header_short : length s < need cap → Fails ≡ header_of s
+  pub header_short : length s < need cap → Err NotSound ≡ header_of s
   unfolding header_of
   header_short h = rw (← e, le-ltb (length s) head_words long, le-ltb cap 1 some, le-ltb limit cap few, lt-ltb (length s) (need cap) h)
 
-  pub header-passes : need cap ≤ length s → Passes cap ≡ header_of s
+  pub header-passes : need cap ≤ length s → Ok cap ≡ header_of s
   unfolding header_of
   header-passes h = rw (← e, le-ltb (length s) head_words long, le-ltb cap 1 some, le-ltb limit cap few, le-ltb (length s) (need cap) h)
 
@@ -49,35 +44,31 @@ module _ (s : List ℕ) (cap : ℕ) (e : cap ≡ head s CAPACITY) (long : head_w
   passing h = record { capacity = sym e; some = some; few = few; room = (h, (let fits = limit-fits in omega arith)) }
 
 module _ (s : List ℕ) (cap : ℕ) where
-  pub peek_reads : (x : Taken) (h : ℕ) → h ≡ head s HEIGHT → x ≡ peek_from s cap h → x ≡ peek_slot s cap
+  pub peek_reads : (x : Result Handle Refusal) (h : ℕ) → h ≡ head s HEIGHT → x ≡ peek_from s cap h → x ≡ peek_slot s cap
   unfolding peek_slot
   peek_reads x h e p = rw (← e) p
 
-  pub peek_slot_lem : (x : Taken) (p i : ℕ) → i ≡ field s cap p STACK → x ≡ found_at s cap i → x ≡ found_at s cap (field s cap p STACK)
+  pub peek_slot_lem : (x : Result Handle Refusal) (p i : ℕ) → i ≡ field s cap p STACK → x ≡ found_at s cap i → x ≡ found_at s cap (field s cap p STACK)
   peek_slot_lem x p i e q = rw (← e) q
 
   pub peek_at : (i : ℕ) (r : Handle) (g : ℕ) → i < cap → r.slot ≡ record { 0 = i } → r.generation ≡ record { 0 = g } → g ≡ field s cap i GENERATION
-      → At r ≡ found_at s cap i
+      → Ok r ≡ found_at s cap i
   unfolding found_at
-  peek_at i r g l e f k = rw (lt-leb cap i l) (ap At (handle-is r i g _ e f k))
+  peek_at i r g l e f k = rw (lt-leb cap i l) (ap Ok (handle-is r i g _ e f k))
 
   -- what `take` knows after the match on what was found
-  module _ (r : Taken) (is : r ≡ peek_slot s cap) where
-    pub take_at : (h : Handle) (p : ℕ) (x : List ℕ) → r ≡ At h → p ≡ head s HEIGHT → x ≡ popped s cap (p - 1)
-        → ◌≡◌ {A = List ℕ × Taken} (x, At h) (take_slot s cap)
+  module _ (r : Result Handle Refusal) (is : r ≡ peek_slot s cap) where
+    pub take_at : (h : Handle) (p : ℕ) (x : List ℕ) → r ≡ Ok h → p ≡ head s HEIGHT → x ≡ popped s cap (p - 1)
+        → ◌≡◌ {A = List ℕ × Result Handle Refusal} (x, Ok h) (take_slot s cap)
     unfolding take_slot
     take_at h p x e f q = rw (← is, e, ← f) (wrote _ _ _ q)
 
-    pub take-full : r ≡ Full → ◌≡◌ {A = List ℕ × Taken} (s, Full) (take_slot s cap)
+    pub take_refused : (n : Refusal) → r ≡ Err n → ◌≡◌ {A = List ℕ × Result Handle Refusal} (s, Err n) (take_slot s cap)
     unfolding take_slot
-    take-full e = rw (← is, e)
+    take_refused n e = rw (← is, e)
 
-    pub take_unsound : r ≡ T.TheVariants.NotSound → ◌≡◌ {A = List ℕ × Taken} (s, T.TheVariants.NotSound) (take_slot s cap)
-    unfolding take_slot
-    take_unsound e = rw (← is, e)
-
-  module _ (r : Taken) (lies : PeekedIn s cap r) (h : Handle) (e : r ≡ At h) where
-    found_as : PeekedIn s cap (At h)
+  module _ (r : Result Handle Refusal) (lies : PeekedIn s cap r) (h : Handle) (e : r ≡ Ok h) where
+    found_as : PeekedIn s cap (Ok h)
     found_as = rw e at lies
 
     pub found_low : (p : ℕ) → p ≡ head s HEIGHT → 1 ≤ p
@@ -95,7 +86,7 @@ module _ (s : List ℕ) (cap : ℕ) where
   unfolding pushed
   push_is i h g t u v w a b c d = rw (d, c, b, a)
 
-  pub free-reads : (i : ℕ) (x : List ℕ × Freed) (h top g : ℕ) → h ≡ head s HEIGHT → top ≡ head s TOP → g ≡ field s cap i GENERATION
+  pub free-reads : (i : ℕ) (x : List ℕ × Result Freed Refusal) (h top g : ℕ) → h ≡ head s HEIGHT → top ≡ head s TOP → g ≡ field s cap i GENERATION
       → x ≡ free_with s cap i h top g → x ≡ free_slot s cap i
   unfolding free_slot
   free-reads i x h top g e f k p = rw (← e, ← f, ← k) p
@@ -131,17 +122,17 @@ good-is len cap top g =
     rw (le-ltb cap 1 r.capacity-from, le-ltb limit cap r.capacity-to, le-ltb top 1 r.top_from, le-ltb top_limit top r.top_to, le-ltb len (need cap) g.room)
 
 module _ (s : List ℕ) (cap top : ℕ) where
-  pub lay_done : good_layout (length s) cap top ≡ true → (t u : List ℕ) → t ≡ fresh_head s cap top → u ≡ lay_slots cap t cap → ◌≡◌ {A = List ℕ × LaidOut} (u, Done) (lay_out_words s cap top)
+  pub lay_done : good_layout (length s) cap top ≡ true → (t u : List ℕ) → t ≡ fresh_head s cap top → u ≡ lay_slots cap t cap → ◌≡◌ {A = List ℕ × Result ⊤ Refusal} (u, Ok tt) (lay_out_words s cap top)
   unfolding lay_out_words laid_words
   lay_done g t u e f = rw (g, f, e)
 
-  pub lay_refused : good_layout (length s) cap top ≡ false → ◌≡◌ {A = List ℕ × LaidOut} (s, Refused BadLayout) (lay_out_words s cap top)
+  pub lay_refused : good_layout (length s) cap top ≡ false → ◌≡◌ {A = List ℕ × Result ⊤ Refusal} (s, Err BadLayout) (lay_out_words s cap top)
   unfolding lay_out_words
   lay_refused g = rw g
 
-pub found_in_lem : (s : List ℕ) (cap h i : ℕ) (r : Handle) → h ≡ head s HEIGHT → 1 ≤ h → h ≤ cap → r.slot ≡ record { 0 = i } → i < cap → PeekedIn s cap (At r)
+pub found_in_lem : (s : List ℕ) (cap h i : ℕ) (r : Handle) → h ≡ head s HEIGHT → 1 ≤ h → h ≤ cap → r.slot ≡ record { 0 = i } → i < cap → PeekedIn s cap (Ok r)
 found_in_lem s cap h i r e l m k n = (rw k n, rw (← e) l, rw (← e) m)
 
 -- what a caller knows after the header test passed
-pub passes-room : (s : List ℕ) (r : Header) (cap : ℕ) → Says s r → r ≡ Passes cap → Room s cap
+pub passes-room : (s : List ℕ) (r : Result ℕ Refusal) (cap : ℕ) → Says s r → r ≡ Ok cap → Room s cap
 passes-room s r cap says e = let p : Passing s cap = rw e at says in p.room

@@ -7,7 +7,7 @@ use native.Mathlib.Omega.{arith}
 use lib.Dec.{ltb, lit<, lit≤}
 use borrow.Author.Tests.{ltb-false}
 use lib.ListN.{length, get_or}
-use Rattle.handle.specs.declared.Refusal.TheVariants.{BadLayout}
+use Rattle.handle.specs.declared.Refusal.TheVariants.{BadLayout, NotSound}
 use Rattle.arena.specs.Branch.{ifte}
 use Rattle.handle.specs.Numbers.{limit}
 use Rattle.handle.proofs.Limits.{limit-fits}
@@ -15,13 +15,12 @@ use Rattle.arena.specs.Words.{need, Long, head_words, head, CAPACITY}
 use Rattle.arena.specs.Header.{header_of, Passing}
 use Rattle.arena.specs.Laying.{GoodLayout, header_words, Fresh}
 use Rattle.arena.specs.inner.Laying.{zeroed, fresh_head, laid_words, lay_out_words, good_layout}
-use Rattle.arena.specs.declared.header.Header.{Header}
-use Rattle.arena.specs.declared.header.Header.TheVariants.{Passes, Fails}
-use Rattle.handle.specs.declared.LaidOut.TheVariants.{Done, Refused}
 use Rattle.arena.proofs.WordLaws.{lit≢, length_put_head, head_at, head-other, rest-put_head}
 use Rattle.arena.proofs.OneStore.{one_store}
 use Rattle.arena.proofs.FreshStore.{lay_slots_lem, zero_words}
 use Rattle.arena.proofs.SlotReads.{good-yes, good-is, lay_refused, header-passes}
+use Rattle.std.specs.Prelude.{Result, Ok, Err}
+use Rattle.handle.specs.declared.Refusal.{Refusal}
 
 module _ (s : List ℕ) (cap top : ℕ) (room : Long s 0) where
   length_zeroed : length (zeroed head_words s) ≡ length s
@@ -68,14 +67,14 @@ laid-is s cap top room =
     }
 
 -- "BadLayout: laying out with capacity or top generation out of range, or a store too short", exactly; then nothing changes
-pub lays-out : (s : List ℕ) (cap top : ℕ) → GoodLayout (length s) cap top → lay_out_words s cap top ≡ (laid_words s cap top, Done)
+pub lays-out : (s : List ℕ) (cap top : ℕ) → GoodLayout (length s) cap top → lay_out_words s cap top ≡ (laid_words s cap top, Ok tt)
 unfolding lay_out_words
 lays-out s cap top g = rw (good-is (length s) cap top g)
 
-pub refuses : (s : List ℕ) (cap top : ℕ) → ¬ GoodLayout (length s) cap top → lay_out_words s cap top ≡ (s, Refused BadLayout)
+pub refuses : (s : List ℕ) (cap top : ℕ) → ¬ GoodLayout (length s) cap top → lay_out_words s cap top ≡ (s, Err BadLayout)
 refuses s cap top n = go (good_layout (length s) cap top) refl
   where
-    go : (b : Bool) → good_layout (length s) cap top ≡ b → lay_out_words s cap top ≡ (s, Refused BadLayout)
+    go : (b : Bool) → good_layout (length s) cap top ≡ b → lay_out_words s cap top ≡ (s, Err BadLayout)
     go true e = absurd (n (good-yes (length s) cap top e))
     go false e = sym (lay_refused s cap top e)
 
@@ -89,15 +88,15 @@ fresh-one s t u cap top a b = one_store t u cap (record {
 })
 
 -- a header passes exactly when the store is long enough and its capacity lies in 1 to the limit
-pub passes : (s : List ℕ) (cap : ℕ) → Passing s cap → header_of s ≡ Passes cap
+pub passes : (s : List ℕ) (cap : ℕ) → Passing s cap → header_of s ≡ Ok cap
 passes s cap p = sym (header-passes s cap (sym p.capacity) (let r = p.room in omega arith) p.some p.few p.room.0)
 
 -- one test of the header's chain
-no-fail : (t : Bool) (b : Header) (cap : ℕ) → ifte t Fails b ≡ Passes cap → (t ≡ false) × (b ≡ Passes cap)
+no-fail : (t : Bool) (b : Result ℕ Refusal) (cap : ℕ) → ifte t (Err NotSound) b ≡ Ok cap → (t ≡ false) × (b ≡ Ok cap)
 no-fail true b cap e = let z : ◌≡◌ {A = ℕ} 0 1 = cc in absurd (omega arith)
 no-fail false b cap e = (refl, e)
 
-pub passing : (s : List ℕ) (cap : ℕ) → header_of s ≡ Passes cap → Passing s cap
+pub passing : (s : List ℕ) (cap : ℕ) → header_of s ≡ Ok cap → Passing s cap
 unfolding header_of
 passing s cap e =
     let a = no-fail (ltb (length s) head_words) _ cap e in
@@ -114,5 +113,5 @@ passing s cap e =
       room = (rw is at (ltb-false (length s) (need (head s CAPACITY)) d.0), omega arith);
     }
   where
-    same : {m n : ℕ} → Passes m ≡ Passes n → m ≡ n
+    same : {m n : ℕ} → ◌≡◌ {A = Result ℕ Refusal} (Ok m) (Ok n) → m ≡ n
     same p = cc

@@ -1,19 +1,19 @@
 -- The header test. Document 01, number 5: "always when the header fails (store too short for header or capacity, capacity 0 or
 -- over the limit)".
-use Rattle.std.specs.Prelude.{ℕ, ◌≤◌, ◌≡◌, List, ltb, length}
+use Rattle.std.specs.Prelude.{ℕ, ◌≤◌, ◌≡◌, List, Result, Ok, Err, ltb, length}
 use Rattle.arena.specs.Branch.{ifte}
 use Rattle.handle.specs.Numbers.{limit}
 use Rattle.arena.specs.Words.{head_words, need, Room, head, CAPACITY}
-use Rattle.arena.specs.declared.header.Header.{Header}
-use Rattle.arena.specs.declared.header.Header.TheVariants.{Passes, Fails}
+use Rattle.handle.specs.declared.Refusal.{Refusal}
+use Rattle.handle.specs.declared.Refusal.TheVariants.{NotSound}
 
-unfoldable pub header_of : List ℕ → Header
+unfoldable pub header_of : List ℕ → Result ℕ Refusal
 header_of s =
-    ifte (ltb (length s) head_words) Fails
-    (ifte (ltb (head s CAPACITY) 1) Fails
-    (ifte (ltb limit (head s CAPACITY)) Fails
-    (ifte (ltb (length s) (need (head s CAPACITY))) Fails
-    (Passes (head s CAPACITY)))))
+    ifte (ltb (length s) head_words) (Err NotSound)
+    (ifte (ltb (head s CAPACITY) 1) (Err NotSound)
+    (ifte (ltb limit (head s CAPACITY)) (Err NotSound)
+    (ifte (ltb (length s) (need (head s CAPACITY))) (Err NotSound)
+    (Ok (head s CAPACITY)))))
 
 -- the header of s passes, and cap is its capacity
 pub record Passing (s : List ℕ) (cap : ℕ) : Type 0 where

@@ -5,31 +5,25 @@ ghost use Rattle.arena.specs.inner.Says.{Says};
 
 use crate::words;
 use crate::words::{CAPACITY, FIELDS, HEAD_WORDS};
-use handle::LIMIT;
+use handle::{LIMIT, Refusal};
 
-// What the header test finds: the capacity of a store whose header passes.
-#[derive(Drop)]
-pub enum Header {
-    Passes(u64),
-    Fails,
-}
-
-pub fn test(s: &[u64]) -> Header
+// The capacity of a store whose header passes, else NotSound.
+pub fn test(s: &[u64]) -> Result<u64, Refusal>
     ensures value { result ≡ header_of s.now }
     ensures says { Says s.now result }
 {
     if (s.len() as u64) < HEAD_WORDS {
-        return Header::Fails;
+        return Err(Refusal::NotSound);
     }
     let cap = words::head(s, CAPACITY);
     if cap < 1 {
-        return Header::Fails;
+        return Err(Refusal::NotSound);
     }
     if LIMIT < cap {
-        return Header::Fails;
+        return Err(Refusal::NotSound);
     }
     if (s.len() as u64) < HEAD_WORDS + cap * FIELDS {
-        return Header::Fails;
+        return Err(Refusal::NotSound);
     }
-    Header::Passes(cap)
+    Ok(cap)
 }

@@ -9,7 +9,7 @@ use crate::words::{
     BACK, CAPACITY, FIELDS, FIRST, GENERATION, HEAD_WORDS, HEIGHT, KEY, LAST, LEFT, NEXT, PREV,
     RANK, RIGHT, ROOT, STACK, TOP, VALUE,
 };
-use handle::{Handle, LIMIT, LaidOut, Refusal, TOP_LIMIT};
+use handle::{Handle, LIMIT, Refusal, TOP_LIMIT};
 
 // The links and the rank of a slot without an entry. BACK holds b.
 fn unlink(s: &mut [u64], cap: u64, i: u64, b: u64)
@@ -52,10 +52,8 @@ fn fresh_slots(s: &mut [u64], cap: u64)
     requires { Room s.old cap }
     ensures { s.new ≡ lay_slots cap s.old cap }
 {
-    let mut i: u64 = 0;
-    while i < cap {
+    for i in 0..cap {
         fresh_slot(s, cap, i);
-        i += 1;
     }
 }
 
@@ -63,10 +61,8 @@ fn zero_header(s: &mut [u64])
     requires { Long s.old 0 }
     ensures { s.new ≡ zeroed head_words s.old }
 {
-    let mut h: u64 = 0;
-    while h < HEAD_WORDS {
+    for h in 0..HEAD_WORDS {
         words::put_head(s, h, 0);
-        h += 1;
     }
 }
 
@@ -105,13 +101,13 @@ fn good_layout(len: u64, capacity: u64, top: u64) -> bool
     true
 }
 
-pub fn lay_out(s: &mut [u64], capacity: u64, top: u64) -> LaidOut
+pub fn lay_out(s: &mut [u64], capacity: u64, top: u64) -> Result<(), Refusal>
     ensures { (s.new, result) ≡ lay_out_words s.old capacity top }
 {
     if good_layout(s.len() as u64, capacity, top) {
         fresh_header(s, capacity, top);
         fresh_slots(s, capacity);
-        return LaidOut::Done;
+        return Ok(());
     }
-    LaidOut::Refused(Refusal::BadLayout)
+    Err(Refusal::BadLayout)
 }

@@ -6,41 +6,34 @@ ghost use Rattle.arena.specs.inner.Slots.{PeekedIn, peek_slot, popped, take_slot
 
 use crate::words::{GENERATION, HEIGHT, STACK, TOP};
 use crate::{laying, words};
-use handle::{Generation, Handle, Slot};
+use handle::{Generation, Handle, Refusal, Slot};
 
-#[derive(Drop)]
-pub enum Taken {
-    At(Handle),
-    Full,
-    NotSound,
-}
-
-#[derive(Drop)]
+// What became of a freed slot.
+#[derive(Clone, Copy, Debug, PartialEq, Eq)]
 pub enum Freed {
     Again,
     GenerationOverflow,
-    NotSound,
 }
 
 // What `take` would answer, with nothing taken.
-pub fn peek(s: &[u64], cap: u64) -> Taken
+pub fn peek(s: &[u64], cap: u64) -> Result<Handle, Refusal>
     requires { Room s.now cap }
     ensures value { result ≡ peek_slot s.now cap }
     ensures peeked_in { PeekedIn s.now cap result }
 {
     let h = words::head(s, HEIGHT);
     if h < 1 {
-        return Taken::Full;
+        return Err(Refusal::NotWithinCapacity);
     }
     if cap < h {
-        return Taken::NotSound;
+        return Err(Refusal::NotSound);
     }
     let i = words::field(s, cap, h - 1, STACK);
     if cap <= i {
-        return Taken::NotSound;
+        return Err(Refusal::NotSound);
     }
     let g = words::field(s, cap, i, GENERATION);
-    Taken::At(Handle::new(Slot(i), Generation(g)))
+    Ok(Handle::new(Slot(i), Generation(g)))
 }
 
 // The stack loses its top, whose place is p.
@@ -54,25 +47,16 @@ fn pop(s: &mut [u64], cap: u64, p: u64)
 }
 
 // Takes the slot that was freed last. Its fields other than the stack's are left to the caller.
-pub fn take(s: &mut [u64], cap: u64) -> Taken
+#[tactic(auto, unfolding(crate::specs::inner::Slots::take_slot))]
+pub fn take(s: &mut [u64], cap: u64) -> Result<Handle, Refusal>
     requires { Room s.old cap }
     ensures result_after { (s.new, result) ≡ take_slot s.old cap }
     ensures taken_in { TakenIn cap result }
 {
-    let found = peek(s, cap);
-    match found {
-        Taken::At(h) => {
-            let p = words::head(s, HEIGHT) - 1;
-            pop(s, cap, p);
-            return Taken::At(h);
-        }
-        Taken::Full => {
-            return Taken::Full;
-        }
-        Taken::NotSound => {
-            return Taken::NotSound;
-        }
-    }
+    let h = peek(s, cap)?;
+    let p = words::head(s, HEIGHT) - 1;
+    pop(s, cap, p);
+    Ok(h)
 }
 
 // The slot i goes on the stack at height h, in the generation after g.
@@ -90,7 +74,7 @@ fn push(s: &mut [u64], cap: u64, i: u64, h: u64, g: u64)
 }
 
 // Frees the slot i: it is free again in the next generation, or retired where it had the top one.
-pub fn free(s: &mut [u64], cap: u64, i: u64) -> Freed
+pub fn free(s: &mut [u64], cap: u64, i: u64) -> Result<Freed, Refusal>
     requires room { Room s.old cap }
     requires i_lt_cap { i < cap }
     ensures { (s.new, result) ≡ free_slot s.old cap i }
@@ -101,10 +85,10 @@ pub fn free(s: &mut [u64], cap: u64, i: u64) -> Freed
     if g < top {
         if h < cap {
             push(s, cap, i, h, g);
-            return Freed::Again;
+            return Ok(Freed::Again);
         }
-        return Freed::NotSound;
+        return Err(Refusal::NotSound);
     }
     laying::blank(s, cap, i, Handle::NO_SLOT);
-    Freed::GenerationOverflow
+    Ok(Freed::GenerationOverflow)
 }

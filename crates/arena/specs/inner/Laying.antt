@@ -1,12 +1,11 @@
 -- Laying out, as a function of the store, for every input: the tests of a layout, and the writes in the code's own order.
 -- What a reader needs of it is ../Laying.antt; proofs/Theorems.antt says that this does that.
-use Rattle.std.specs.Prelude.{ℕ, zero, suc, ◌-◌, Bool, true, false, List, ltb, length}
+use Rattle.std.specs.Prelude.{ℕ, zero, suc, ◌-◌, Bool, true, false, List, Result, Ok, Err, ⊤, ltb, length}
 use Rattle.handle.specs.Numbers.{no_slot, first_generation, limit, top_limit}
+use Rattle.handle.specs.declared.Refusal.{Refusal}
 use Rattle.handle.specs.declared.Refusal.TheVariants.{BadLayout}
 use Rattle.arena.specs.Branch.{ifte}
 use Rattle.arena.specs.Words.{head_words, need, put, put_head, KEY, LEFT, RIGHT, RANK, BACK, PREV, NEXT, GENERATION, VALUE, STACK, CAPACITY, TOP, HEIGHT, FIRST, LAST, ROOT}
-use Rattle.handle.specs.declared.LaidOut.{LaidOut}
-use Rattle.handle.specs.declared.LaidOut.TheVariants.{Done, Refused}
 
 -- the links and the rank of a slot without an entry: "Fields without use hold a fixed value." BACK holds a free slot's place in
 -- the stack, else no slot
@@ -47,5 +46,5 @@ good_layout len cap top =
 unfoldable pub laid_words : List ℕ → ℕ → ℕ → List ℕ
 laid_words s cap top = lay_slots cap (fresh_head s cap top) cap
 
-unfoldable pub lay_out_words : List ℕ → ℕ → ℕ → List ℕ × LaidOut
-lay_out_words s cap top = ifte (good_layout (length s) cap top) (laid_words s cap top, Done) (s, Refused BadLayout)
+unfoldable pub lay_out_words : List ℕ → ℕ → ℕ → List ℕ × Result ⊤ Refusal
+lay_out_words s cap top = ifte (good_layout (length s) cap top) (laid_words s cap top, Ok tt) (s, Err BadLayout)

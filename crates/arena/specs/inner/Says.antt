@@ -1,10 +1,10 @@
 -- What the header test tells its callers, beside its answer.
-use Rattle.std.specs.Prelude.{ℕ, List}
+use Rattle.std.specs.Prelude.{ℕ, ◌≡◌, List, Result, Ok, Err}
 use Rattle.arena.specs.Header.{Passing}
-use Rattle.arena.specs.declared.header.Header.{Header}
-use Rattle.arena.specs.declared.header.Header.TheVariants.{Passes, Fails}
+use Rattle.handle.specs.declared.Refusal.{Refusal}
+use Rattle.handle.specs.declared.Refusal.TheVariants.{NotSound}
 
 -- what a caller may rely on after the test
-abbrev pub Says : List ℕ → Header → Type 0
-Says s (Passes cap) = Passing s cap
-Says s Fails = Unit {0}
+abbrev pub Says : List ℕ → Result ℕ Refusal → Type 0
+Says s (Ok cap) = Passing s cap
+Says s (Err r) = r ≡ NotSound

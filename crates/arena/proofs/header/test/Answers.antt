@@ -1,5 +1,6 @@
 use Rattle.handle.specs.Numbers.{limit}
 use Rattle.arena.specs.Header.{header_of}
+use Rattle.handle.specs.declared.Refusal.TheVariants.{NotSound}
 use Rattle.arena.proofs.Paths.{paths}
 use native.Mathlib.Omega.{arith}
 use Rattle.arena.proofs.SlotReads.{header_short, header-passes, passing}
@@ -19,7 +20,7 @@ returns-then-cap-gt-LIMIT c = search paths depth 12
 
 pub returns-then-s-cap : goal.returns-then-s-cap
 unfolding limit
-returns-then-s-cap c = record { value = search (header_short, arith); says = tt }
+returns-then-s-cap c = record { value = search (header_short, arith); says = λ i. NotSound }
 
 pub returns : goal.returns
 unfolding limit

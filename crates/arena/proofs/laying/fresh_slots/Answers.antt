@@ -8,9 +8,6 @@ loop-i-init c = (omega arith, slots-start _ _)
 pub fresh_slot-requires : goal.fresh_slot-requires
 fresh_slot-requires c = omega arith
 
-pub overflow_add-i : goal.overflow_add-i
-overflow_add-i c = omega arith
-
 pub loop-i-smaller : goal.loop-i-smaller
 loop-i-smaller c = omega arith
 

@@ -9,9 +9,6 @@ loop-h-init c = (omega arith, refl)
 pub put_head-requires : goal.put_head-requires
 put_head-requires c = omega arith
 
-pub overflow_add-h : goal.overflow_add-h
-overflow_add-h c = omega arith
-
 pub loop-h-smaller : goal.loop-h-smaller
 loop-h-smaller c = omega arith
 
