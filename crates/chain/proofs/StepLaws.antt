@@ -8,16 +8,16 @@ use Rattle.handle.specs.Numbers.{no_slot}
 use Rattle.arena.specs.inner.Slots.{handle_with}
 use Rattle.arena.specs.Words.{field, GENERATION}
 use Rattle.chain.specs.inner.Steps.{followed}
-use Rattle.chain.specs.declared.Stepped.TheVariants.{At, End}
+use Rattle.std.specs.Prelude.{Ok, Some, None}
 
 module _ (s : List ℕ) (cap p : ℕ) where
-  pub follow-none : p ≡ no_slot → followed s cap p ≡ End
+  pub follow-none : p ≡ no_slot → followed s cap p ≡ (Ok None)
   unfolding followed
   follow-none e = rw (eq-eqb p no_slot e)
 
-  follow-slot : (p ≡ no_slot → ⊥) → p < cap → followed s cap p ≡ At (handle_with p (field s cap p GENERATION))
+  follow-slot : (p ≡ no_slot → ⊥) → p < cap → followed s cap p ≡ Ok (Some (handle_with p (field s cap p GENERATION)))
   unfolding followed
   follow-slot ne l = rw (ne_eqb p no_slot ne, lt-leb cap p l)
 
-  pub follow-at : cap ≤ no_slot → p < cap → followed s cap p ≡ At (handle_with p (field s cap p GENERATION))
+  pub follow-at : cap ≤ no_slot → p < cap → followed s cap p ≡ Ok (Some (handle_with p (field s cap p GENERATION)))
   follow-at few l = follow-slot (λ e. omega arith) l

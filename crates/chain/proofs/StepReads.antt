@@ -7,16 +7,16 @@ use Rattle.arena.specs.Words.{field, PREV, NEXT}
 use Rattle.chain.specs.inner.Links.{hooked, joined, neighbours, unlink_slot}
 use Rattle.chain.specs.inner.Steps.{followed, step_from}
 use Rattle.chain.specs.declared.Neighbours.{Neighbours}
-use Rattle.chain.specs.declared.Stepped.{Stepped}
-use Rattle.chain.specs.declared.Stepped.TheVariants.{At}
+use Rattle.std.specs.Prelude.{Result, Ok, Option, Some}
+use Rattle.handle.specs.declared.Refusal.{Refusal}
 
-pub stepped_at : (h h' : Handle) → h ≡ h' → ◌≡◌ {A = Stepped} (At h) (At h')
+pub stepped_at : (h h' : Handle) → h ≡ h' → ◌≡◌ {A = (Result (Option Handle) Refusal)} (Ok (Some h)) (Ok (Some h'))
 stepped_at h h' e = rw e
 
 pub stepped_in : (cap p : ℕ) (h : Handle) → h.slot ≡ record { 0 = p } → p < cap → h.slot.0 < cap
 stepped_in cap p h e l = rw e l
 
-pub step-reads : (s : List ℕ) (cap i d q : ℕ) (r : Stepped) → q ≡ field s cap i (PREV + d) → r ≡ followed s cap q → r ≡ step_from s cap i d
+pub step-reads : (s : List ℕ) (cap i d q : ℕ) (r : Result (Option Handle) Refusal) → q ≡ field s cap i (PREV + d) → r ≡ followed s cap q → r ≡ step_from s cap i d
 unfolding step_from
 step-reads s cap i d q r e f = rw (← e) f
 

@@ -9,7 +9,9 @@ use Rattle.handle.specs.Numbers.{no_slot}
 use Rattle.arena.specs.Words.{field, head, KEY, LEFT, ROOT}
 use Rattle.arena.specs.inner.Budget.{budget}
 use Rattle.find.specs.inner.Seeking.{side_of_key, seek_from, seek_at, seek_model, FoundIn}
-use Rattle.find.specs.declared.Found.TheVariants.{Equal, Beside, Empty, NotSound}
+use Rattle.find.specs.declared.Found.TheVariants.{Equal, Beside, Empty}
+use Rattle.std.specs.Prelude.{Ok, Err}
+use Rattle.handle.specs.declared.Refusal.TheVariants.{NotSound}
 
 -- left if less, right if greater
 pub side-less : (k key : ℕ) → k < key → side_of_key k key ≡ 0
@@ -29,7 +31,7 @@ side-small k key = go (dec_lt k key)
 
 -- from the root
 module _ (s : List ℕ) (cap k root : ℕ) (e : head s ROOT ≡ root) where
-  pub seek-empty : root ≡ no_slot → seek_model s cap k ≡ Empty
+  pub seek-empty : root ≡ no_slot → seek_model s cap k ≡ (Ok Empty)
   unfolding seek_model seek_at
   seek-empty h = rw (e, eq-eqb root no_slot h)
 
@@ -42,17 +44,17 @@ module _ (s : List ℕ) (cap k root : ℕ) (e : head s ROOT ≡ root) where
 
 -- at a node p, with a turn left
 module _ (fuel : ℕ) (s : List ℕ) (cap k p n : ℕ) where
-  pub seek-outside : cap ≤ p → seek_from (suc fuel) s cap k p n ≡ NotSound
+  pub seek-outside : cap ≤ p → seek_from (suc fuel) s cap k p n ≡ (Err NotSound)
   unfolding seek_from
   seek-outside l = rw (le-leb cap p l)
 
   module _ (l : p < cap) (key : ℕ) (e : field s cap p KEY ≡ key) where
-    pub seek-equal : key ≡ k → seek_from (suc fuel) s cap k p n ≡ Equal p (n + 1)
+    pub seek-equal : key ≡ k → seek_from (suc fuel) s cap k p n ≡ Ok (Equal p (n + 1))
     unfolding seek_from
     seek-equal f = rw (lt-leb cap p l, e, eq-eqb key k f)
 
     module _ (f : key ≡ k → ⊥) (d q : ℕ) (g : side_of_key k key ≡ d) (m : field s cap p (LEFT + d) ≡ q) where
-      pub seek-beside : q ≡ no_slot → seek_from (suc fuel) s cap k p n ≡ Beside p d (n + 1)
+      pub seek-beside : q ≡ no_slot → seek_from (suc fuel) s cap k p n ≡ Ok (Beside p d (n + 1))
       unfolding seek_from
       seek-beside z = rw (lt-leb cap p l, e, ne_eqb key k f, g, m, eq-eqb q no_slot z)
 

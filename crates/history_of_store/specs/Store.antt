@@ -1,13 +1,11 @@
 -- A call of a history, made on a store: the models that the public functions are proved equal to (crates `queue` and `sound`), the answers
 -- read in document 01's terms. A history names keys in stored form and handles as slot and generation; here they become a caller's.
 -- A reader may rely on: `on_store` is what the public functions do, on any words; proofs/Linked draws demand 3 from it.
-use Rattle.std.specs.Prelude.{ℕ, ◌≡◌, List, ℤ, length}
+use Rattle.std.specs.Prelude.{ℕ, ◌≡◌, List, ℤ, length, Result}
 use Rattle.handle.specs.declared.Handle as H
 use Rattle.handle.specs.declared.Side as D
 use Rattle.arena.specs.Keys.{signed}
 use Rattle.arena.specs.inner.Laying.{lay_out_words}
-use Rattle.handle.specs.declared.Inserted as I
-use Rattle.handle.specs.declared.Ahead as A
 use Rattle.rules.specs.Queue.{Handle, Queue}
 use Rattle.rules.specs.Answers.{Where, less, equal, greater}
 use Rattle.rules.specs.Insert.{Kind, normal, on_empty, manual}
@@ -21,6 +19,9 @@ use Rattle.queue.specs.inner.Looking.{search_call, read_call}
 use Rattle.queue.specs.inner.Moving.{start_call, stand_call, step_call}
 use Rattle.queue.specs.Readings.{laid_means, search_means, moved_means}
 use Rattle.sound.specs.inner.Check.{sound_model}
+use Rattle.handle.specs.declared.Inserted as I
+use Rattle.handle.specs.declared.Ahead as A
+use Rattle.handle.specs.declared.Refusal.{Refusal}
 
 -- a handle and a side of the history as the caller holds them
 abbrev pub held : Handle → H.Handle
@@ -32,12 +33,12 @@ where_of_side equal = D.TheVariants.Equal
 where_of_side greater = D.TheVariants.Greater
 
 -- the public call of each kind, and of its look-ahead
-abbrev pub insert_on : Kind → List ℕ → ℤ → ℕ → List ℕ × I.Inserted
+abbrev pub insert_on : Kind → List ℕ → ℤ → ℕ → List ℕ × Result I.Inserted Refusal
 insert_on normal s key value = insert_call s key value
 insert_on on_empty s key value = empty_call s key value
 insert_on (manual h w) s key value = manual_call s (held h) (where_of_side w) key value
 
-abbrev pub ahead_on : Kind → List ℕ → ℤ → A.Ahead
+abbrev pub ahead_on : Kind → List ℕ → ℤ → Result A.Ahead Refusal
 ahead_on normal s key = ahead_call s key
 ahead_on on_empty s key = ahead_empty_call s
 ahead_on (manual h w) s key = ahead_manual_call s (held h) (where_of_side w) key

@@ -13,80 +13,73 @@ use Rattle.handle.specs.declared.Refusal.{Refusal}
 use Rattle.handle.specs.declared.Refusal as R
 use Rattle.arena.specs.Keys.{stored}
 use Rattle.arena.specs.inner.Slots.{peek_slot, taken_as, take_slot}
-use Rattle.arena.specs.declared.slots.Taken.{Taken}
-use Rattle.arena.specs.declared.slots.Taken as T
 use Rattle.insert.specs.inner.Ahead.{new_as, next_new, looked_ahead, ahead_normal, ahead_empty, ahead_manual}
 use Rattle.insert.specs.inner.Kinds.{prepared_normal, prepared_empty, prepared_manual}
 use Rattle.insert.specs.inner.Place.{alone_as, placed_alone, hung_below, hung_as, beside_as, placed_beside, value_replaced, applied, normal_inserted, empty_inserted, manual_inserted, as_ahead}
 use Rattle.insert.specs.declared.kinds.Prepared.{Prepared}
-use Rattle.insert.specs.declared.kinds.Prepared.TheVariants.{Alone, Beside, Replace, Fail, NotSound}
+use Rattle.insert.specs.declared.kinds.Prepared.TheVariants.{Alone, Beside, Replace}
 use Rattle.handle.specs.declared.Inserted.{Inserted}
-use Rattle.handle.specs.declared.Inserted.TheVariants.{New, Replacing, Refused}
+use Rattle.handle.specs.declared.Inserted.TheVariants.{New, Replacing}
+use Rattle.std.specs.Prelude.{Result, Ok, Err}
 
 -- the refusal 5, which an insertion may give after it has written
-abbrev pub Unsound : Inserted → Type 0
-Unsound a = a ≡ Refused R.TheVariants.NotSound
+abbrev pub Unsound : (Result Inserted Refusal) → Type 0
+Unsound a = a ≡ Err R.TheVariants.NotSound
 
-new-no : {A : Type 0} (h : Handle) (r : Refusal) → New h ≡ Refused r → A
+new-no : {A : Type 0} (h : Handle) (r : Refusal) → Ok (New h) ≡ Err r → A
 new-no h r e = let z : ◌≡◌ {A = ℕ} 0 1 = cc in absurd (omega arith)
 
-old-no : {A : Type 0} (h : Handle) (v : ℕ) (r : Refusal) → Replacing h v ≡ Refused r → A
+old-no : {A : Type 0} (h : Handle) (v : ℕ) (r : Refusal) → Ok (Replacing h v) ≡ Err r → A
 old-no h v r e = let z : ◌≡◌ {A = ℕ} 0 1 = cc in absurd (omega arith)
 
-module _ (s : List ℕ) (cap : ℕ) (key : ℤ) (value : ℕ) (r : Refusal) (sound : Refused r ≡ Refused R.TheVariants.NotSound → ⊥) where
+module _ (s : List ℕ) (cap : ℕ) (key : ℤ) (value : ℕ) (r : Refusal) (sound : Err r ≡ Err R.TheVariants.NotSound → ⊥) where
   -- by the slot that was found
-  alone_same : (q : Taken) → let x = taken_as s cap q in (alone_as cap key value x.0 x.1).1 ≡ Refused r → (alone_as cap key value x.0 x.1).0 ≡ s
-  alone_same (T.TheVariants.At h) e = new-no h r e
-  alone_same T.TheVariants.Full e = refl
-  alone_same T.TheVariants.NotSound e = refl
+  alone_same : (q : Result Handle Refusal) → let x = taken_as s cap q in (alone_as cap key value x.0 x.1).1 ≡ Err r → (alone_as cap key value x.0 x.1).0 ≡ s
+  alone_same (Ok h) e = new-no h r e
+  alone_same (Err n) e = refl
 
-  hung-same : (h : Handle) (t : List ℕ) (b : Bool) → (hung_as h t b).1 ≡ Refused r → (hung_as h t b).0 ≡ s
+  hung-same : (h : Handle) (t : List ℕ) (b : Bool) → (hung_as h t b).1 ≡ Err r → (hung_as h t b).0 ≡ s
   hung-same h t true e = new-no h r e
   hung-same h t false e = absurd (sound (cc))
 
-  beside_same : (p d : ℕ) (q : Taken) → let x = taken_as s cap q in (beside_as cap p d key value x.0 x.1).1 ≡ Refused r → (beside_as cap p d key value x.0 x.1).0 ≡ s
-  beside_same p d (T.TheVariants.At h) e =
-      let t = (taken_as s cap (T.TheVariants.At h)).0 in
+  beside_same : (p d : ℕ) (q : Result Handle Refusal) → let x = taken_as s cap q in (beside_as cap p d key value x.0 x.1).1 ≡ Err r → (beside_as cap p d key value x.0 x.1).0 ≡ s
+  beside_same p d (Ok h) e =
+      let t = (taken_as s cap (Ok h)).0 in
       let y = hung_below t cap h.slot.0 p d key value in
       hung-same h y.0 y.1 e
-  beside_same p d T.TheVariants.Full e = refl
-  beside_same p d T.TheVariants.NotSound e = refl
+  beside_same p d (Err n) e = refl
 
-  pub refused-same : (p : Prepared) → (applied s cap p key value).1 ≡ Refused r → (applied s cap p key value).0 ≡ s
+  pub refused-same : (p : Result Prepared Refusal) → (applied s cap p key value).1 ≡ Err r → (applied s cap p key value).0 ≡ s
   unfolding placed_alone placed_beside take_slot value_replaced
-  refused-same Alone e = alone_same (peek_slot s cap) e
-  refused-same (Beside p d) e = beside_same p d (peek_slot s cap) e
-  refused-same (Replace p) e = old-no _ _ r e
-  refused-same Fail e = refl
-  refused-same NotSound e = refl
+  refused-same (Ok Alone) e = alone_same (peek_slot s cap) e
+  refused-same (Ok (Beside p d)) e = beside_same p d (peek_slot s cap) e
+  refused-same (Ok (Replace p)) e = old-no _ _ r e
+  refused-same (Err n) e = refl
 
 module _ (s : List ℕ) (cap : ℕ) (key : ℤ) (value : ℕ) where
-  alone_told : (q : Taken) → let x = taken_as s cap q in new_as q ≡ as_ahead (alone_as cap key value x.0 x.1).1
-  alone_told (T.TheVariants.At h) = refl
-  alone_told T.TheVariants.Full = refl
-  alone_told T.TheVariants.NotSound = refl
+  alone_told : (q : Result Handle Refusal) → let x = taken_as s cap q in new_as q ≡ as_ahead (alone_as cap key value x.0 x.1).1
+  alone_told (Ok h) = refl
+  alone_told (Err n) = refl
 
-  hung-told : (h : Handle) (t : List ℕ) (b : Bool) → (Unsound (hung_as h t b).1 → ⊥) → new_as (T.TheVariants.At h) ≡ as_ahead (hung_as h t b).1
+  hung-told : (h : Handle) (t : List ℕ) (b : Bool) → (Unsound (hung_as h t b).1 → ⊥) → new_as (Ok h) ≡ as_ahead (hung_as h t b).1
   hung-told h t true n = refl
   hung-told h t false n = absurd (n refl)
 
-  beside-told : (p d : ℕ) (q : Taken) → let x = taken_as s cap q in (Unsound (beside_as cap p d key value x.0 x.1).1 → ⊥)
+  beside-told : (p d : ℕ) (q : Result Handle Refusal) → let x = taken_as s cap q in (Unsound (beside_as cap p d key value x.0 x.1).1 → ⊥)
       → new_as q ≡ as_ahead (beside_as cap p d key value x.0 x.1).1
-  beside-told p d (T.TheVariants.At h) n =
-      let t = (taken_as s cap (T.TheVariants.At h)).0 in
+  beside-told p d (Ok h) n =
+      let t = (taken_as s cap (Ok h)).0 in
       let y = hung_below t cap h.slot.0 p d key value in
       hung-told h y.0 y.1 n
-  beside-told p d T.TheVariants.Full n = refl
-  beside-told p d T.TheVariants.NotSound n = refl
+  beside-told p d (Err n) n = refl
 
   -- where the insertion doesn't find the store unsound, the look-ahead told its answer
-  pub ahead-told : (p : Prepared) → (Unsound (applied s cap p key value).1 → ⊥) → looked_ahead s cap p ≡ as_ahead (applied s cap p key value).1
+  pub ahead-told : (p : Result Prepared Refusal) → (Unsound (applied s cap p key value).1 → ⊥) → looked_ahead s cap p ≡ as_ahead (applied s cap p key value).1
   unfolding next_new placed_alone placed_beside take_slot value_replaced
-  ahead-told Alone n = alone_told (peek_slot s cap)
-  ahead-told (Beside p d) n = beside-told p d (peek_slot s cap) n
-  ahead-told (Replace p) n = refl
-  ahead-told Fail n = refl
-  ahead-told NotSound n = refl
+  ahead-told (Ok Alone) n = alone_told (peek_slot s cap)
+  ahead-told (Ok (Beside p d)) n = beside-told p d (peek_slot s cap) n
+  ahead-told (Ok (Replace p)) n = refl
+  ahead-told (Err n) n = refl
 
   pub normal-told : (Unsound (normal_inserted s cap key value).1 → ⊥) → ahead_normal s cap key ≡ as_ahead (normal_inserted s cap key value).1
   unfolding ahead_normal normal_inserted

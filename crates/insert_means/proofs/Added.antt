@@ -9,11 +9,9 @@ use Rattle.handle.specs.Numbers.{no_slot}
 use Rattle.arena.specs.Keys.{stored}
 use Rattle.arena.specs.inner.Entries.{entry_put}
 use Rattle.arena.specs.inner.Slots.{handle_with, take_slot}
-use Rattle.arena.specs.declared.slots.Taken as T
 use Rattle.tree.specs.inner.Links.{with_child}
 use Rattle.chain.specs.inner.Links.{link_alone, link_beside}
 use Rattle.insert.specs.inner.Place.{stand_alone, placed_alone, hung, hung_below, placed_beside}
-use Rattle.handle.specs.declared.Inserted as I
 use Rattle.wavl.specs.Lists.{In}
 use Rattle.wavl.specs.Entry.{Entry, slots}
 use Rattle.wavl.specs.Tree.{Side, Tree, tip, leaf}
@@ -40,9 +38,12 @@ use Rattle.insert_means.proofs.Rebalanced.{rebalances}
 use Rattle.insert_means.proofs.Hung as Hung
 use Rattle.insert_means.proofs.Hung.{hung_queue}
 use Rattle.insert_means.proofs.Beside.{beside-links}
+use Rattle.handle.specs.declared.Inserted as I
+use Rattle.std.specs.Prelude.{Result, Ok}
+use Rattle.handle.specs.declared.Refusal.{Refusal}
 
 -- the model of a new entry at the place: the whole queue, or beside the place's parent
-abbrev pub placed_at : List ℕ → ℕ → Way → ℤ → ℕ → List ℕ × I.Inserted
+abbrev pub placed_at : List ℕ → ℕ → Way → ℤ → ℕ → List ℕ × Result I.Inserted Refusal
 placed_at s cap [] key value = placed_alone s cap key value
 placed_at s cap (step d e r u ∷ p) key value = placed_beside s cap e.slot (number d) key value
 
@@ -89,7 +90,7 @@ module _ {s : List ℕ} {q : Queue} (dq : Sound q) (w : Words s q) (key : ℤ) (
           let n = rw (o, slots_append (before p) (after p)) at not_live in
           (λ z. n (in_left h.slot (slots (before p)) (slots (after p)) z), λ z. n (in_right h.slot (slots (before p)) (slots (after p)) z))
 
-      taken : take_slot s cap ≡ (Hung.taken_store (separate_of dq) w h rest free (stored key) value p e sep, T.TheVariants.At (handle_with h.slot h.generation))
+      taken : take_slot s cap ≡ (Hung.taken_store (separate_of dq) w h rest free (stored key) value p e sep, Ok (handle_with h.slot h.generation))
       taken = take-first s cap h rest (Hung.places (separate_of dq) w h rest free (stored key) value p e sep) low (rw free at w.free)
 
     -- the first entry of an empty queue

@@ -12,7 +12,6 @@ use Rattle.arena.specs.Words.{Long, put, RANK}
 use Rattle.arena.specs.inner.Budget.{budget}
 use Rattle.arena.proofs.WordLaws.{length_put}
 use Rattle.tree.specs.inner.Links.{side_of_child}
-use Rattle.tree.specs.declared.Climbed.TheVariants.{Done, Up}
 use Rattle.raise.specs.inner.Ranks.{raised_up, fix_turn, raise_from}
 use Rattle.raise.proofs.Fixes.{raise-up, raise-done}
 use Rattle.wavl.specs.Entry.{Entry}
@@ -30,14 +29,16 @@ use Rattle.arena.proofs.Only.{only_none}
 use Rattle.queue_of_store.proofs.AnyDepth.{Regrown, Came, came, came_on}
 use Rattle.insert_means.proofs.Restructured.{Stands, stands_on, ranked-at, restructured}
 use Rattle.insert_means.proofs.RaiseTurns.{side-at, turn-stops, turn-raises, turn-turns}
+use Rattle.tree.specs.declared.Climbed.TheVariants.{Done, Up}
+use Rattle.std.specs.Prelude.{Ok}
 
 -- a climb ends, or goes on
 module _ (fuel : ℕ) (s : List ℕ) (cap p0 p1 p2 d01 d12 : ℕ) (t : List ℕ) where
-  climb_ends : (t, Done) ≡ fix_turn s cap p0 p1 p2 d01 d12 → raise_from (suc fuel) s cap p0 p1 p2 d01 d12 ≡ (t, true)
+  climb_ends : (t, Ok Done) ≡ fix_turn s cap p0 p1 p2 d01 d12 → raise_from (suc fuel) s cap p0 p1 p2 d01 d12 ≡ (t, true)
   unfolding raise_from
   climb_ends e = rw (← e)
 
-  climb_goes : (p3 d : ℕ) → (t, Up p3 d) ≡ fix_turn s cap p0 p1 p2 d01 d12 → raise_from (suc fuel) s cap p0 p1 p2 d01 d12 ≡ raise_from fuel t cap p1 p2 p3 d12 d
+  climb_goes : (p3 d : ℕ) → (t, Ok (Up p3 d)) ≡ fix_turn s cap p0 p1 p2 d01 d12 → raise_from (suc fuel) s cap p0 p1 p2 d01 d12 ≡ raise_from fuel t cap p1 p2 p3 d12 d
   unfolding raise_from
   climb_goes p3 d e = rw (← e)
 

@@ -14,7 +14,6 @@ use Rattle.handle.specs.declared.Side as S
 use Rattle.arena.specs.Words.{field, KEY, LEFT, PREV}
 use Rattle.arena.specs.inner.Entries.{is_live}
 use Rattle.insert.specs.inner.Kinds.{lies_on, prepared_equal, place_beside, beside_next, prepared_beside, prepared_manual}
-use Rattle.insert.specs.declared.kinds.Prepared.TheVariants.{Fail}
 use Rattle.wavl.specs.Lists.{In}
 use Rattle.wavl.specs.Entry.{Entry}
 use Rattle.wavl.specs.Tree.{Side, left, right, other, Tree, tip, fork, pick}
@@ -42,6 +41,8 @@ use Rattle.queue_of_store.proofs.Chains.{slot_of}
 use Rattle.insert_means.specs.Meaning.{side_means}
 use Rattle.insert_means.proofs.Plans.{add, swap, fail, planned, Prepares}
 use Rattle.insert_means.proofs.Neighbours.{end_slot, end_has, gap-tip, gap-planned, neighbour_end, neighbour-link, neighbour_in}
+use Rattle.std.specs.Prelude.{Err, Option}
+use Rattle.handle.specs.declared.Refusal.TheVariants.{FailedOrdRequirement}
 
 -- the test of two keys, over the side
 lies_yes : (d : Side) (k : ℕ) (y : Entry) → Beside d (keyed k) y → lies_on (number d) k y.key ≡ true
@@ -152,7 +153,7 @@ module _ {s : List ℕ} {q : Queue} (hold : Holds s q) (k : ℕ) where
           let key : field s cap (slot_of n) KEY ≡ y.key = rw g (live-entry hold y i).key-is in
           rw (here.key-is, lies_yes d k x f.0, link, ne_eqb (slot_of n) no_slot (λ z. omega arith), lt-leb cap (slot_of n) (rw g low), key, over_yes d k y f.1) place-beside
 
-      fails : (m : Option Entry) → n ≡ m → ¬ (Between d (keyed k) x m) → Dec (Beside d (keyed k) x) → prepared_beside s cap x.slot (number d) k ≡ Fail
+      fails : (m : Option Entry) → n ≡ m → ¬ (Between d (keyed k) x m) → Dec (Beside d (keyed k) x) → prepared_beside s cap x.slot (number d) k ≡ (Err FailedOrdRequirement)
       unfolding prepared_beside beside_next
       fails m u f (no z) = rw (here.key-is, lies_no d k x z)
       fails none u f (yes z) = absurd (f z)

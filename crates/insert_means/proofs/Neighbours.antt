@@ -7,7 +7,6 @@ use mathlib.Core.List.{List, [], ◌∷◌, ◌++◌, append_assoc}
 use mathlib.Core.Option.{some}
 use Rattle.handle.specs.Numbers.{no_slot}
 use Rattle.arena.specs.Words.{field, PREV}
-use Rattle.insert.specs.declared.kinds.Prepared.TheVariants.{Beside}
 use Rattle.wavl.specs.Lists.{In}
 use Rattle.wavl.specs.Entry.{Entry, slots}
 use Rattle.wavl.specs.Tree.{Side, left, right, other, Tree, tip, fork, pick, inorder}
@@ -22,6 +21,8 @@ use Rattle.queue_of_store.proofs.Has.{Has}
 use Rattle.queue_of_store.proofs.Chains.{slot_of, first-slot, last-slot, end_last, chain-at}
 use Rattle.queue_of_store.proofs.Segments.{last_append, last_in_slots}
 use Rattle.insert_means.proofs.Plans.{add, planned}
+use Rattle.insert.specs.declared.kinds.Prepared.TheVariants.{Beside}
+use Rattle.std.specs.Prelude.{Ok}
 
 -- a tree's end on the side d
 abbrev pub end_slot : Side → Tree → ℕ
@@ -53,16 +54,16 @@ gap-tip left p = refl
 gap-tip right p = refl
 
 -- the empty place at a tree's end hangs below the end
-pub gap-planned : (d : Side) (t : Tree) (p : Way) → IsFork t → planned (add (gap d t p)) ≡ Beside (end_slot d t) (number d)
+pub gap-planned : (d : Side) (t : Tree) (p : Way) → IsFork t → planned (add (gap d t p)) ≡ Ok (Beside (end_slot d t) (number d))
 unfolding gap inorder
 gap-planned d tip p f = absurd f
 gap-planned left (fork tip e r b) p f = refl
 gap-planned left (fork (fork a x k c) e r b) p f =
-    gap-planned left (fork a x k c) (step left e r b ∷ p) tt ∙ ap (λ z. Beside z 0) (sym (first_more (inorder a) x (inorder c) (e ∷ inorder b)))
-gap-planned right (fork a e r tip) p f = ap (λ z. Beside z 1) (sym (last_append (inorder a) e []))
+    gap-planned left (fork a x k c) (step left e r b ∷ p) tt ∙ ap (λ z. Ok (Beside z 0)) (sym (first_more (inorder a) x (inorder c) (e ∷ inorder b)))
+gap-planned right (fork a e r tip) p f = ap (λ z. Ok (Beside z 1)) (sym (last_append (inorder a) e []))
 gap-planned right (fork a e r (fork b x k c)) p f =
     gap-planned right (fork b x k c) (step right e r a ∷ p) tt
-    ∙ ap (λ z. Beside z 1) (sym (ap last_slot (sym (append_assoc (inorder a) (e ∷ []) (inorder b ++ (x ∷ inorder c)))) ∙ last_more (inorder a ++ (e ∷ [])) (inorder b) x (inorder c)))
+    ∙ ap (λ z. Ok (Beside z 1)) (sym (ap last_slot (sym (append_assoc (inorder a) (e ∷ []) (inorder b ++ (x ∷ inorder c)))) ∙ last_more (inorder a ++ (e ∷ [])) (inorder b) x (inorder c)))
 
 module _ (a : Tree) (x : Entry) (r : ℕ) (b : Tree) (p : Way) where
   -- a neighbour on the side of a child is the child's end

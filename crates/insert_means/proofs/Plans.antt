@@ -11,8 +11,6 @@ use Rattle.arena.specs.Keys.{stored}
 use Rattle.insert.specs.inner.Kept.{Within}
 use Rattle.insert.specs.inner.Place.{applied}
 use Rattle.insert.specs.inner.Ahead.{next_new, looked_ahead}
-use Rattle.insert.specs.declared.kinds.Prepared.{Prepared}
-use Rattle.insert.specs.declared.kinds.Prepared.TheVariants.{Alone, Beside, Replace, Fail}
 use Rattle.wavl.specs.Entry.{Entry}
 use Rattle.wavl.specs.Tree.{Tree, tip, fork}
 use Rattle.wavl.specs.Way.{step, Way, plug}
@@ -31,6 +29,11 @@ use Rattle.insert_means.specs.inner.Inserts.{Inserts}
 use Rattle.insert_means.proofs.AnswerWords.{Answers}
 use Rattle.insert_means.proofs.Added.{adds}
 use Rattle.insert_means.proofs.Swapped.{inserts, refuses, swaps}
+use Rattle.insert.specs.declared.kinds.Prepared.{Prepared}
+use Rattle.insert.specs.declared.kinds.Prepared.TheVariants.{Alone, Beside, Replace}
+use Rattle.std.specs.Prelude.{Result, Ok, Err}
+use Rattle.handle.specs.declared.Refusal.TheVariants.{FailedOrdRequirement}
+use Rattle.handle.specs.declared.Refusal.{Refusal}
 
 pub data Plan : Type 0 where
   add : Way → Plan
@@ -38,11 +41,11 @@ pub data Plan : Type 0 where
   fail : Plan
 
 -- the plan in the words
-abbrev pub planned : Plan → Prepared
-planned (add []) = Alone
-planned (add (step d e r u ∷ p)) = Beside e.slot (number d)
-planned (swap a x r b p) = Replace x.slot
-planned fail = Fail
+abbrev pub planned : Plan → Result Prepared Refusal
+planned (add []) = Ok Alone
+planned (add (step d e r u ∷ p)) = Ok (Beside e.slot (number d))
+planned (swap a x r b p) = Ok (Replace x.slot)
+planned fail = Err FailedOrdRequirement
 
 -- the plan in the queue
 abbrev pub followed : Plan → ℕ → ℕ → Queue → Inserted × Queue
@@ -57,7 +60,7 @@ Fitting q (swap a x r b p) = plug (fork a x r b) p ≡ q.tree
 Fitting q fail = Unit {0}
 
 -- what was prepared in the words, and what crate `rules` does, follow one plan
-pub record Prepares (q : Queue) (k : ℕ) (pr : Prepared) (m : ℕ → Inserted × Queue) : Type 0 where
+pub record Prepares (q : Queue) (k : ℕ) (pr : Result Prepared Refusal) (m : ℕ → Inserted × Queue) : Type 0 where
   pub plan : Plan
   pub fits : Fitting q plan
   pub words_so : pr ≡ planned plan
@@ -74,7 +77,7 @@ module _ {s : List ℕ} {q : Queue} (k : Holds s q) where
   carry key value (swap a x r b p) f d = swaps k value a x r b p f
   carry key value fail f d = refuses k R.TheVariants.FailedOrdRequirement
 
-  pub carries_out : (key : ℤ) (value : ℕ) (pr : Prepared) (m : ℕ → Inserted × Queue) → Prepares q (stored key) pr m → Sound (m value).1
+  pub carries_out : (key : ℤ) (value : ℕ) (pr : Result Prepared Refusal) (m : ℕ → Inserted × Queue) → Prepares q (stored key) pr m → Sound (m value).1
       → Within s (applied s cap pr key value).0 cap → Inserts s cap (applied s cap pr key value) (m value)
   carries_out key value pr m y d c =
       inserts d (rw (y.words_so, y.queue_so value) (carry key value y.plan y.fits (rw (y.queue_so value) at d))) c
@@ -96,5 +99,5 @@ module _ {s : List ℕ} {q : Queue} (k : Holds s q) where
   foretell key (swap a x r b p) f = rw (live-entry k x (spot_in k a x r b p f)).generation-is
   foretell key fail f = refl
 
-  pub foretells : (key : ℕ) (pr : Prepared) (m : ℕ → Inserted × Queue) → Prepares q key pr m → ahead_means (looked_ahead s cap pr) ≡ ahead (m 0).0
+  pub foretells : (key : ℕ) (pr : Result Prepared Refusal) (m : ℕ → Inserted × Queue) → Prepares q key pr m → ahead_means (looked_ahead s cap pr) ≡ ahead (m 0).0
   foretells key pr m y = rw (y.words_so, y.queue_so 0) (foretell key y.plan y.fits)

@@ -7,7 +7,6 @@ use Rattle.handle.specs.Numbers.{refusal_number}
 use Rattle.handle.specs.declared.Refusal.{Refusal}
 use Rattle.insert.specs.inner.Kept.{Within}
 use Rattle.insert.specs.inner.Place.{value_replaced}
-use Rattle.handle.specs.declared.Inserted as I
 use Rattle.wavl.specs.Entry.{Entry}
 use Rattle.wavl.specs.Tree.{Tree, fork}
 use Rattle.wavl.specs.Way.{Way, plug, replace_at}
@@ -21,16 +20,18 @@ use Rattle.queue_of_store.proofs.Live.{live-entry, spot_in}
 use Rattle.queue_of_store.proofs.Valued.{new-value}
 use Rattle.insert_means.specs.inner.Inserts.{Inserts}
 use Rattle.insert_means.proofs.AnswerWords.{Answers}
+use Rattle.handle.specs.declared.Inserted as I
+use Rattle.std.specs.Prelude.{Result, Err}
 
 -- a sound queue's words make a store that holds it
-pub inserts : {s : List ℕ} {cap : ℕ} {r : List ℕ × I.Inserted} {m : Inserted × Queue} → Sound m.1 → Answers r m → Within s r.0 cap → Inserts s cap r m
+pub inserts : {s : List ℕ} {cap : ℕ} {r : List ℕ × Result I.Inserted Refusal} {m : Inserted × Queue} → Sound m.1 → Answers r m → Within s r.0 cap → Inserts s cap r m
 inserts d a c = record { answer = a.answer; holds = holds_of d a.words; keeps = c }
 
 module _ {s : List ℕ} {q : Queue} (k : Holds s q) where
   abbrev cap : ℕ
   cap = q.capacity
 
-  pub refuses : (n : Refusal) → Answers (s, I.TheVariants.Refused n) (not_inserted (refusal_number n), q)
+  pub refuses : (n : Refusal) → Answers (s, Err n) (not_inserted (refusal_number n), q)
   refuses n = record { answer = refl; words = words_of k }
 
   pub swaps : (value : ℕ) (a : Tree) (x : Entry) (r : ℕ) (b : Tree) (p : Way) → plug (fork a x r b) p ≡ q.tree

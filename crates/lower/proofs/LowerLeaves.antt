@@ -12,13 +12,14 @@ use Rattle.arena.proofs.Only.{only_none, only_trans, only-put}
 use Rattle.tree.specs.inner.Links.{side_of_child}
 use Rattle.tree.specs.inner.Climb.{Standing}
 use Rattle.tree.specs.inner.Kept.{TreeOnly}
-use Rattle.tree.specs.declared.Climbed.TheVariants.{Done, Up}
 use Rattle.tree.proofs.Climb.{Turned, turned-done, turned_bad, on_only}
 use Rattle.tree.proofs.Keeps.{side-small, back-only, relinked-only, node-only, spread-only}
 use Rattle.lower.specs.inner.Rotations.{turn_once, turn_twice_with, turn_twice}
 use Rattle.lower.specs.inner.Climb.{go_up_to, go_up, upward, lower_one, lowered_both, climb_past_with, climb_past, climb_at_with, climb_at, climb_turn_with, climb_turn, lower_from}
 use Rattle.lower.specs.declared.turns.Turn.{Turn}
 use Rattle.lower.specs.declared.climbing.Site.{Site}
+use Rattle.tree.specs.declared.Climbed.TheVariants.{Done, Up}
+use Rattle.std.specs.Prelude.{Ok}
 
 -- the rotations
 module _ (s : List ℕ) (cap d : ℕ) (t : Turn) (h1 : t.n1 < cap) (hs : t.s0 < cap) (hd : d ≤ 1) where
@@ -39,7 +40,7 @@ pub up-stands : (s : List ℕ) (cap p1 : ℕ) → Standing cap (go_up s cap p1)
 unfolding go_up go_up_to
 up-stands s cap p1 =
     let p2 = field s cap p1 BACK in
-    either (Standing cap) (ltb p2 cap) (Up p2 (side_of_child s cap p2 p1)) Done (λ e. (ltb-true p2 cap e, side-small _ _ _ _)) (λ e. tt)
+    either (Standing cap) (ltb p2 cap) (Ok (Up p2 (side_of_child s cap p2 p1))) (Ok Done) (λ e. (ltb-true p2 cap e, side-small _ _ _ _)) (λ e. tt)
 
 pub lower_only : (s : List ℕ) (cap p1 rank : ℕ) → p1 < cap → Turned s cap (lower_one s cap p1 rank)
 unfolding lower_one upward

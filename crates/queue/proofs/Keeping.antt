@@ -6,23 +6,23 @@ use mathlib.Core.List.{List}
 use lib.ListN.{length, get_or}
 use Rattle.arena.specs.inner.Only.{Only, AnyField, AnyHead}
 use Rattle.arena.specs.Header.{header_of, Passing}
-use Rattle.arena.specs.declared.header.Header.{Header}
-use Rattle.arena.specs.declared.header.Header.TheVariants.{Passes, Fails}
 use Rattle.arena.proofs.Theorems.{passes, passing}
 use Rattle.rules.specs.Queue.{Queue}
 use Rattle.queue_of_store.specs.Holds.{Holds}
 use Rattle.queue.specs.inner.Header.{on_header}
 use Rattle.queue.specs.Promises.{Writes, Looks}
 use Rattle.queue.proofs.Looked.{on_held}
+use Rattle.std.specs.Prelude.{Result, Ok, Err}
+use Rattle.handle.specs.declared.Refusal.{Refusal}
 
 -- what a model keeps of the store: the length, and what lies past the needed words
 abbrev pub Keeps : List ℕ → List ℕ → ℕ → Type 0
 Keeps s t cap = Only s t cap AnyField AnyHead
 
 module _ {A B : Type 0} (five : A) (s : List ℕ) (f : ℕ → List ℕ × A) (reads : A → B) (rule : Queue → B × Queue) (keeps : (cap : ℕ) → Passing s cap → Keeps s (f cap).0 cap) (means : (q : Queue) → Holds s q → (reads (f q.capacity).1 ≡ (rule q).0) × Holds (f q.capacity).0 (rule q).1) where
-  call_long : (h : Header) → header_of s ≡ h → length (on_header h f (s, five)).0 ≡ length s
-  call_long (Passes cap) e = (keeps cap (passing s cap e)).long
-  call_long Fails e = refl
+  call_long : (h : Result ℕ Refusal) → header_of s ≡ h → length (on_header h f (s, five)).0 ≡ length s
+  call_long (Ok cap) e = (keeps cap (passing s cap e)).long
+  call_long (Err n) e = refl
 
   pub writes : (t : List ℕ) (r : A) → (t, r) ≡ on_header (header_of s) f (s, five) → Writes five (on_header (header_of s) f (s, five)) reads rule s t r
   writes t r e = record {

@@ -6,8 +6,6 @@ use mathlib.Core.Logic.{◌↔◌}
 use mathlib.Core.Bool.{Bool, true, false}
 use mathlib.Core.List.{List}
 use lib.ListN.{length}
-use Rattle.handle.specs.declared.LaidOut.{LaidOut}
-use Rattle.handle.specs.declared.LaidOut.TheVariants as L
 use Rattle.handle.specs.declared.Refusal.TheVariants.{BadLayout}
 use Rattle.arena.specs.Laying.{GoodLayout, Fresh}
 use Rattle.arena.specs.inner.Laying.{laid_words, lay_out_words}
@@ -19,15 +17,17 @@ use Rattle.queue_of_store.specs.Holds.{Holds}
 use Rattle.queue_of_store.proofs.FreshQueue.{fresh_holds}
 use Rattle.queue.specs.Promises.{enough_in}
 use Rattle.queue.specs.Readings.{laid_means}
+use Rattle.std.specs.Prelude.{Result, Ok, Err, ⊤}
+use Rattle.handle.specs.declared.Refusal.{Refusal}
 
-module _ (s t : List ℕ) (r : LaidOut) (cap top : ℕ) (e : (t, r) ≡ lay_out_words s cap top) where
-  pub laid_out : GoodLayout (length s) cap top → (r ≡ L.Done) × Fresh s t cap top × Holds t (fresh cap top)
+module _ (s t : List ℕ) (r : Result ⊤ Refusal) (cap top : ℕ) (e : (t, r) ≡ lay_out_words s cap top) where
+  pub laid_out : GoodLayout (length s) cap top → (r ≡ (Ok tt)) × Fresh s t cap top × Holds t (fresh cap top)
   laid_out g =
-      let u : ◌≡◌ {A = List ℕ × LaidOut} (t, r) (laid_words s cap top, L.Done) = e ∙ lays-out s cap top g in
+      let u : ◌≡◌ {A = List ℕ × Result ⊤ Refusal} (t, r) (laid_words s cap top, Ok tt) = e ∙ lays-out s cap top g in
       let f : Fresh s t cap top = subst⁻¹ (λ (x : List ℕ). Fresh s x cap top) (ap (λ x. x.0) u) (laid-is s cap top g.room) in
       (ap (λ x. x.1) u, f, fresh_holds s t cap top f g)
 
-  pub not_laid_lem : ¬ GoodLayout (length s) cap top → (t ≡ s) × (r ≡ L.Refused BadLayout)
+  pub not_laid_lem : ¬ GoodLayout (length s) cap top → (t ≡ s) × (r ≡ Err BadLayout)
   not_laid_lem n = let u = e ∙ refuses s cap top n in (ap (λ x. x.0) u, ap (λ x. x.1) u)
 
   -- `one`: the store's good layouts are document 01's

@@ -12,7 +12,6 @@ use Rattle.arena.specs.Keys.{stored}
 use Rattle.arena.specs.inner.Entries.{is_live}
 use Rattle.arena.proofs.Theorems.{passes}
 use Rattle.chain.specs.inner.Steps.{step_from, end_of}
-use Rattle.chain.specs.declared.Stepped as C
 use Rattle.wavl.specs.Tree.{Side, left, right}
 use Rattle.wavl.specs.Search.{equal_to, nearest, empty_tree, answer_at, search}
 use Rattle.wavl.specs.Search as Search
@@ -31,7 +30,9 @@ use Rattle.queue.specs.inner.Header.{on_header}
 use Rattle.queue.specs.inner.Looking.{handle_at, as_searched, searched, search_call}
 use Rattle.queue.specs.inner.Moving.{moved_to, cursor_at, start_call, stand_in, stand_call, step_in, step_call}
 use Rattle.queue.specs.Readings.{search_means, moved_means}
-use Rattle.queue.specs.declared.cursor.Moved.TheVariants as M
+use Rattle.std.specs.Prelude.{Result, Ok, Err, Option, Some, None}
+use Rattle.handle.specs.declared.Refusal.{Refusal}
+use Rattle.handle.specs.declared.Handle.{Handle}
 
 -- a store that holds a queue has a header that passes
 pub on_held : {A : Type 0} {s : List ℕ} {q : Queue} → Holds s q → (f : ℕ → A) (a : A) → on_header (header_of s) f a ≡ f q.capacity
@@ -46,10 +47,10 @@ found_reads s cap (nearest e right n) = refl
 found_reads s cap empty_tree = refl
 
 -- a step reads the same
-step-reads : (p : C.Stepped) → moved_means (moved_to p) ≡ step_means p
-step-reads (C.TheVariants.At h) = refl
-step-reads C.TheVariants.End = refl
-step-reads C.TheVariants.NotSound = refl
+step-reads : (p : Result (Option Handle) Refusal) → moved_means (moved_to p) ≡ step_means p
+step-reads (Ok (Some h)) = refl
+step-reads (Ok None) = refl
+step-reads (Err n) = refl
 
 module _ {s : List ℕ} {q : Queue} (k : Holds s q) where
   pub search-means : (key : ℤ) → search_means (search_call s key) ≡ search_for (stored key) q
@@ -71,7 +72,7 @@ module _ {s : List ℕ} {q : Queue} (k : Holds s q) where
     unfolding stand_call stand_in stand_at stand_spot
     stand_is = rw (on_held k (λ cap. stand_in s cap h) _, live-is k h) (go (spot_of (plain h) q))
       where
-        go : (w : Spot) → moved_means (ifte (is_spot w) (M.At (cursor_at h)) (M.Refused R.InvalidPtr)) ≡ stand_spot (plain h) w
+        go : (w : Spot) → moved_means (ifte (is_spot w) (Ok (Some (cursor_at h))) (Err R.InvalidPtr)) ≡ stand_spot (plain h) w
         go nowhere = refl
         go (spot a x r b p) = refl
 
@@ -80,7 +81,7 @@ module _ {s : List ℕ} {q : Queue} (k : Holds s q) where
     step_in_lem d = rw (live-is k h) (go (spot_of (plain h) q) refl)
       where
         go : (w : Spot) → spot_of (plain h) q ≡ w
-            → moved_means (ifte (is_spot w) (moved_to (step_from s q.capacity h.slot.0 (number d))) (M.Refused R.InvalidPtr)) ≡ step_spot d w
+            → moved_means (ifte (is_spot w) (moved_to (step_from s q.capacity h.slot.0 (number d))) (Err R.InvalidPtr)) ≡ step_spot d w
         go nowhere e = refl
         go (spot a x r b p) e =
             let t : is_live s q.capacity h ≡ true = live-is k h ∙ ap is_spot e in

@@ -15,12 +15,7 @@ use Rattle.handle.specs.declared.Refusal.{Refusal}
 use Rattle.handle.specs.declared.Refusal.TheVariants.{NotWithinCapacity, FailedOrdRequirement, InvalidPtr, BadLayout, NotSound, BadTime}
 use Rattle.arena.specs.Keys.{stored, signed}
 use Rattle.handle.specs.declared.Entry.{Entry}
-use Rattle.handle.specs.declared.LaidOut as L
 use Rattle.arena.proofs.KeyLaws.{stored_undone}
-use Rattle.handle.specs.declared.Inserted as I
-use Rattle.handle.specs.declared.Ahead as A
-use Rattle.handle.specs.declared.Removed as X
-use Rattle.handle.specs.declared.Reading as R
 use Rattle.rules.specs.Queue.{Queue}
 use Rattle.queue_of_store.specs.Handles.{plain}
 use Rattle.queue_of_store.proofs.SameStore.{same_store}
@@ -28,9 +23,12 @@ use Rattle.insert_means.specs.Meaning.{inserted_means, ahead_means, side_means}
 use Rattle.remove_means.specs.Meaning.{removed_means, read_means}
 use Rattle.queue.specs.Promises.{Meant}
 use Rattle.queue.specs.Readings.{laid_means, search_means, moved_means}
-use Rattle.queue.specs.declared.looking.Searched as S
 use Rattle.queue.specs.declared.cursor.Cursor.{Cursor}
-use Rattle.queue.specs.declared.cursor.Moved as M
+use Rattle.handle.specs.declared.Inserted as I
+use Rattle.handle.specs.declared.Ahead as A
+use Rattle.handle.specs.declared.Removed as X
+use Rattle.queue.specs.declared.looking.Searched as S
+use Rattle.std.specs.Prelude.{Result, Ok, Err, Option, Some, None, ⊤}
 
 -- ---- from readings to answers and stores
 
@@ -74,33 +72,33 @@ handle-one h g e = λ i. record { slot = record { 0 = (e i).slot }; generation =
 apart : {A : Type 0} → ◌≡◌ {A = ℕ} 0 1 → A
 apart z = absurd (omega arith)
 
-pub laid_one : (a b : L.LaidOut) → laid_means a ≡ laid_means b → a ≡ b
-laid_one L.TheVariants.Done L.TheVariants.Done e = refl
-laid_one L.TheVariants.Done (L.TheVariants.Refused n) e = apart cc
-laid_one (L.TheVariants.Refused m) L.TheVariants.Done e = apart cc
-laid_one (L.TheVariants.Refused m) (L.TheVariants.Refused n) e = ap L.TheVariants.Refused (refusal_one m n cc)
+pub laid_one : (a b : Result ⊤ Refusal) → laid_means a ≡ laid_means b → a ≡ b
+laid_one (Ok tt) (Ok tt) e = refl
+laid_one (Ok tt) (Err n) e = apart cc
+laid_one (Err m) (Ok tt) e = apart cc
+laid_one (Err m) (Err n) e = ap Err (refusal_one m n cc)
 
-pub inserted-one : (a b : I.Inserted) → inserted_means a ≡ inserted_means b → a ≡ b
-inserted-one (I.TheVariants.New h) (I.TheVariants.New g) e = ap I.TheVariants.New (handle-one h g cc)
-inserted-one (I.TheVariants.New h) (I.TheVariants.Replacing g v) e = apart cc
-inserted-one (I.TheVariants.New h) (I.TheVariants.Refused n) e = apart cc
-inserted-one (I.TheVariants.Replacing h u) (I.TheVariants.New g) e = apart cc
-inserted-one (I.TheVariants.Replacing h u) (I.TheVariants.Replacing g v) e = let p : h ≡ g = handle-one h g cc in let r : u ≡ v = cc in rw (p, r)
-inserted-one (I.TheVariants.Replacing h u) (I.TheVariants.Refused n) e = apart cc
-inserted-one (I.TheVariants.Refused m) (I.TheVariants.New g) e = apart cc
-inserted-one (I.TheVariants.Refused m) (I.TheVariants.Replacing g v) e = apart cc
-inserted-one (I.TheVariants.Refused m) (I.TheVariants.Refused n) e = ap I.TheVariants.Refused (refusal_one m n cc)
+pub inserted-one : (a b : Result I.Inserted Refusal) → inserted_means a ≡ inserted_means b → a ≡ b
+inserted-one (Ok (I.TheVariants.New h)) (Ok (I.TheVariants.New g)) e = ap Ok (I.TheVariants.New (handle-one h g cc))
+inserted-one (Ok (I.TheVariants.New h)) (Ok (I.TheVariants.Replacing g v)) e = apart cc
+inserted-one (Ok (I.TheVariants.New h)) (Err n) e = apart cc
+inserted-one (Ok (I.TheVariants.Replacing h u)) (Ok (I.TheVariants.New g)) e = apart cc
+inserted-one (Ok (I.TheVariants.Replacing h u)) (Ok (I.TheVariants.Replacing g v)) e = let p : h ≡ g = handle-one h g cc in let r : u ≡ v = cc in rw (p, r)
+inserted-one (Ok (I.TheVariants.Replacing h u)) (Err n) e = apart cc
+inserted-one (Err m) (Ok (I.TheVariants.New g)) e = apart cc
+inserted-one (Err m) (Ok (I.TheVariants.Replacing g v)) e = apart cc
+inserted-one (Err m) (Err n) e = ap Err (refusal_one m n cc)
 
-pub ahead-one : (a b : A.Ahead) → ahead_means a ≡ ahead_means b → a ≡ b
-ahead-one (A.TheVariants.New h) (A.TheVariants.New g) e = ap A.TheVariants.New (handle-one h g cc)
-ahead-one (A.TheVariants.New h) (A.TheVariants.Replacing g) e = apart cc
-ahead-one (A.TheVariants.New h) (A.TheVariants.Refused n) e = apart cc
-ahead-one (A.TheVariants.Replacing h) (A.TheVariants.New g) e = apart cc
-ahead-one (A.TheVariants.Replacing h) (A.TheVariants.Replacing g) e = ap A.TheVariants.Replacing (handle-one h g cc)
-ahead-one (A.TheVariants.Replacing h) (A.TheVariants.Refused n) e = apart cc
-ahead-one (A.TheVariants.Refused m) (A.TheVariants.New g) e = apart cc
-ahead-one (A.TheVariants.Refused m) (A.TheVariants.Replacing g) e = apart cc
-ahead-one (A.TheVariants.Refused m) (A.TheVariants.Refused n) e = ap A.TheVariants.Refused (refusal_one m n cc)
+pub ahead-one : (a b : Result A.Ahead Refusal) → ahead_means a ≡ ahead_means b → a ≡ b
+ahead-one (Ok (A.TheVariants.New h)) (Ok (A.TheVariants.New g)) e = ap Ok (A.TheVariants.New (handle-one h g cc))
+ahead-one (Ok (A.TheVariants.New h)) (Ok (A.TheVariants.Replacing g)) e = apart cc
+ahead-one (Ok (A.TheVariants.New h)) (Err n) e = apart cc
+ahead-one (Ok (A.TheVariants.Replacing h)) (Ok (A.TheVariants.New g)) e = apart cc
+ahead-one (Ok (A.TheVariants.Replacing h)) (Ok (A.TheVariants.Replacing g)) e = ap Ok (A.TheVariants.Replacing (handle-one h g cc))
+ahead-one (Ok (A.TheVariants.Replacing h)) (Err n) e = apart cc
+ahead-one (Err m) (Ok (A.TheVariants.New g)) e = apart cc
+ahead-one (Err m) (Ok (A.TheVariants.Replacing g)) e = apart cc
+ahead-one (Err m) (Err n) e = ap Err (refusal_one m n cc)
 
 -- an entry whose key is one of 64 bits, as every key that code holds is
 abbrev pub Fits : Entry → Type 0
@@ -111,40 +109,40 @@ entry-one x y f g e v =
     let k = sym (stored_undone x.key.0 f) ∙ ap signed e ∙ stored_undone y.key.0 g in
     λ i. record { key = record { 0 = k i }; value = v i }
 
-abbrev pub FitsRemoved : X.Removed → Type 0
-FitsRemoved (X.TheVariants.Entry x) = Fits x
-FitsRemoved (X.TheVariants.GenerationOverflow x) = Fits x
-FitsRemoved (X.TheVariants.Refused n) = Unit {0}
+abbrev pub FitsRemoved : (Result X.Removed Refusal) → Type 0
+FitsRemoved (Ok (X.TheVariants.Entry x)) = Fits x
+FitsRemoved (Ok (X.TheVariants.GenerationOverflow x)) = Fits x
+FitsRemoved (Err n) = Unit {0}
 
-pub removed-one : (a b : X.Removed) → FitsRemoved a → FitsRemoved b → removed_means a ≡ removed_means b → a ≡ b
-removed-one (X.TheVariants.Entry x) (X.TheVariants.Entry y) f g e =
+pub removed-one : (a b : Result X.Removed Refusal) → FitsRemoved a → FitsRemoved b → removed_means a ≡ removed_means b → a ≡ b
+removed-one (Ok (X.TheVariants.Entry x)) (Ok (X.TheVariants.Entry y)) f g e =
     let k : stored x.key.0 ≡ stored y.key.0 = cc in
     let v : x.value ≡ y.value = cc in
-    ap X.TheVariants.Entry (entry-one x y f g k v)
-removed-one (X.TheVariants.Entry x) (X.TheVariants.GenerationOverflow y) f g e = apart cc
-removed-one (X.TheVariants.Entry x) (X.TheVariants.Refused n) f g e = apart cc
-removed-one (X.TheVariants.GenerationOverflow x) (X.TheVariants.Entry y) f g e = apart cc
-removed-one (X.TheVariants.GenerationOverflow x) (X.TheVariants.GenerationOverflow y) f g e =
+    ap Ok (X.TheVariants.Entry (entry-one x y f g k v))
+removed-one (Ok (X.TheVariants.Entry x)) (Ok (X.TheVariants.GenerationOverflow y)) f g e = apart cc
+removed-one (Ok (X.TheVariants.Entry x)) (Err n) f g e = apart cc
+removed-one (Ok (X.TheVariants.GenerationOverflow x)) (Ok (X.TheVariants.Entry y)) f g e = apart cc
+removed-one (Ok (X.TheVariants.GenerationOverflow x)) (Ok (X.TheVariants.GenerationOverflow y)) f g e =
     let k : stored x.key.0 ≡ stored y.key.0 = cc in
     let v : x.value ≡ y.value = cc in
-    ap X.TheVariants.GenerationOverflow (entry-one x y f g k v)
-removed-one (X.TheVariants.GenerationOverflow x) (X.TheVariants.Refused n) f g e = apart cc
-removed-one (X.TheVariants.Refused m) (X.TheVariants.Entry y) f g e = apart cc
-removed-one (X.TheVariants.Refused m) (X.TheVariants.GenerationOverflow y) f g e = apart cc
-removed-one (X.TheVariants.Refused m) (X.TheVariants.Refused n) f g e = ap X.TheVariants.Refused (refusal_one m n cc)
+    ap Ok (X.TheVariants.GenerationOverflow (entry-one x y f g k v))
+removed-one (Ok (X.TheVariants.GenerationOverflow x)) (Err n) f g e = apart cc
+removed-one (Err m) (Ok (X.TheVariants.Entry y)) f g e = apart cc
+removed-one (Err m) (Ok (X.TheVariants.GenerationOverflow y)) f g e = apart cc
+removed-one (Err m) (Err n) f g e = ap Err (refusal_one m n cc)
 
-abbrev pub FitsRead : R.Reading → Type 0
-FitsRead (R.TheVariants.Entry x) = Fits x
-FitsRead (R.TheVariants.Refused n) = Unit {0}
+abbrev pub FitsRead : (Result Entry Refusal) → Type 0
+FitsRead (Ok x) = Fits x
+FitsRead (Err n) = Unit {0}
 
-pub read_one : (a b : R.Reading) → FitsRead a → FitsRead b → read_means a ≡ read_means b → a ≡ b
-read_one (R.TheVariants.Entry x) (R.TheVariants.Entry y) f g e =
+pub read_one : (a b : Result Entry Refusal) → FitsRead a → FitsRead b → read_means a ≡ read_means b → a ≡ b
+read_one (Ok x) (Ok y) f g e =
     let k : stored x.key.0 ≡ stored y.key.0 = cc in
     let v : x.value ≡ y.value = cc in
-    ap R.TheVariants.Entry (entry-one x y f g k v)
-read_one (R.TheVariants.Entry x) (R.TheVariants.Refused n) f g e = apart cc
-read_one (R.TheVariants.Refused m) (R.TheVariants.Entry y) f g e = apart cc
-read_one (R.TheVariants.Refused m) (R.TheVariants.Refused n) f g e = ap R.TheVariants.Refused (refusal_one m n cc)
+    ap Ok (entry-one x y f g k v)
+read_one (Ok x) (Err n) f g e = apart cc
+read_one (Err m) (Ok y) f g e = apart cc
+read_one (Err m) (Err n) f g e = ap Err (refusal_one m n cc)
 
 side-one : (c d : Side) → side_means c ≡ side_means d → c ≡ d
 side-one Less Less e = refl
@@ -157,38 +155,38 @@ side-one Greater Less e = apart cc
 side-one Greater Equal e = apart cc
 side-one Greater Greater e = refl
 
-pub searched-one : (a b : S.Searched) → search_means a ≡ search_means b → a ≡ b
-searched-one (S.TheVariants.Equal h m) (S.TheVariants.Equal g n) e = let p : h ≡ g = handle-one h g cc in let r : m ≡ n = cc in rw (p, r)
-searched-one (S.TheVariants.Equal h m) (S.TheVariants.Beside g d n) e = apart cc
-searched-one (S.TheVariants.Equal h m) (S.TheVariants.Empty n) e = apart cc
-searched-one (S.TheVariants.Equal h m) (S.TheVariants.Refused n) e = apart cc
-searched-one (S.TheVariants.Beside h c m) (S.TheVariants.Equal g n) e = apart cc
-searched-one (S.TheVariants.Beside h c m) (S.TheVariants.Beside g d n) e =
+pub searched-one : (a b : Result S.Searched Refusal) → search_means a ≡ search_means b → a ≡ b
+searched-one (Ok (S.TheVariants.Equal h m)) (Ok (S.TheVariants.Equal g n)) e = let p : h ≡ g = handle-one h g cc in let r : m ≡ n = cc in rw (p, r)
+searched-one (Ok (S.TheVariants.Equal h m)) (Ok (S.TheVariants.Beside g d n)) e = apart cc
+searched-one (Ok (S.TheVariants.Equal h m)) (Ok (S.TheVariants.Empty n)) e = apart cc
+searched-one (Ok (S.TheVariants.Equal h m)) (Err n) e = apart cc
+searched-one (Ok (S.TheVariants.Beside h c m)) (Ok (S.TheVariants.Equal g n)) e = apart cc
+searched-one (Ok (S.TheVariants.Beside h c m)) (Ok (S.TheVariants.Beside g d n)) e =
     let p : h ≡ g = handle-one h g cc in
     let o : c ≡ d = side-one c d cc in
     let r : m ≡ n = cc in
     rw (p, o, r)
-searched-one (S.TheVariants.Beside h c m) (S.TheVariants.Empty n) e = apart cc
-searched-one (S.TheVariants.Beside h c m) (S.TheVariants.Refused n) e = apart cc
-searched-one (S.TheVariants.Empty m) (S.TheVariants.Equal g n) e = apart cc
-searched-one (S.TheVariants.Empty m) (S.TheVariants.Beside g d n) e = apart cc
-searched-one (S.TheVariants.Empty m) (S.TheVariants.Empty n) e = ap S.TheVariants.Empty cc
-searched-one (S.TheVariants.Empty m) (S.TheVariants.Refused n) e = apart cc
-searched-one (S.TheVariants.Refused m) (S.TheVariants.Equal g n) e = apart cc
-searched-one (S.TheVariants.Refused m) (S.TheVariants.Beside g d n) e = apart cc
-searched-one (S.TheVariants.Refused m) (S.TheVariants.Empty n) e = apart cc
-searched-one (S.TheVariants.Refused m) (S.TheVariants.Refused n) e = ap S.TheVariants.Refused (refusal_one m n cc)
+searched-one (Ok (S.TheVariants.Beside h c m)) (Ok (S.TheVariants.Empty n)) e = apart cc
+searched-one (Ok (S.TheVariants.Beside h c m)) (Err n) e = apart cc
+searched-one (Ok (S.TheVariants.Empty m)) (Ok (S.TheVariants.Equal g n)) e = apart cc
+searched-one (Ok (S.TheVariants.Empty m)) (Ok (S.TheVariants.Beside g d n)) e = apart cc
+searched-one (Ok (S.TheVariants.Empty m)) (Ok (S.TheVariants.Empty n)) e = ap Ok (S.TheVariants.Empty cc)
+searched-one (Ok (S.TheVariants.Empty m)) (Err n) e = apart cc
+searched-one (Err m) (Ok (S.TheVariants.Equal g n)) e = apart cc
+searched-one (Err m) (Ok (S.TheVariants.Beside g d n)) e = apart cc
+searched-one (Err m) (Ok (S.TheVariants.Empty n)) e = apart cc
+searched-one (Err m) (Err n) e = ap Err (refusal_one m n cc)
 
 cursor_one : (c d : Cursor) → plain c.handle ≡ plain d.handle → c ≡ d
 cursor_one c d e = let h = handle-one c.handle d.handle e in λ i. record { handle = h i }
 
-pub moved-one : (a b : M.Moved) → moved_means a ≡ moved_means b → a ≡ b
-moved-one (M.TheVariants.At c) (M.TheVariants.At d) e = ap M.TheVariants.At (cursor_one c d cc)
-moved-one (M.TheVariants.At c) M.TheVariants.End e = apart cc
-moved-one (M.TheVariants.At c) (M.TheVariants.Refused n) e = apart cc
-moved-one M.TheVariants.End (M.TheVariants.At d) e = apart cc
-moved-one M.TheVariants.End M.TheVariants.End e = refl
-moved-one M.TheVariants.End (M.TheVariants.Refused n) e = apart cc
-moved-one (M.TheVariants.Refused m) (M.TheVariants.At d) e = apart cc
-moved-one (M.TheVariants.Refused m) M.TheVariants.End e = apart cc
-moved-one (M.TheVariants.Refused m) (M.TheVariants.Refused n) e = ap M.TheVariants.Refused (refusal_one m n cc)
+pub moved-one : (a b : Result (Option Cursor) Refusal) → moved_means a ≡ moved_means b → a ≡ b
+moved-one (Ok (Some c)) (Ok (Some d)) e = ap Ok (Some (cursor_one c d cc))
+moved-one (Ok (Some c)) (Ok None) e = apart cc
+moved-one (Ok (Some c)) (Err n) e = apart cc
+moved-one (Ok None) (Ok (Some d)) e = apart cc
+moved-one (Ok None) (Ok None) e = refl
+moved-one (Ok None) (Err n) e = apart cc
+moved-one (Err m) (Ok (Some d)) e = apart cc
+moved-one (Err m) (Ok None) e = apart cc
+moved-one (Err m) (Err n) e = ap Err (refusal_one m n cc)

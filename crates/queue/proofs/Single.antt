@@ -5,11 +5,11 @@ use native.Mathlib.Decide.{dec_le}
 use mathlib.Core.Path.{◌≡◌, sym, ◌∙◌}
 use mathlib.Core.List.{List}
 use Rattle.handle.specs.Numbers.{limit}
-use Rattle.handle.specs.declared.Needed.{Needed}
-use Rattle.handle.specs.declared.LaidOut.{LaidOut}
 use Rattle.rules.specs.Queue.{Queue}
 use Rattle.queue.specs.Promises.{Writes, Looks}
 use Rattle.queue.specs.Promised.{NeedPromise, LayOutPromise}
+use Rattle.std.specs.Prelude.{Result, ⊤}
+use Rattle.handle.specs.declared.Refusal.{Refusal}
 
 -- every call that writes, but laying out: InsertPromise, EmptyPromise, ManualPromise and RemovePromise are of this form
 pub writes_one : {A B : Type 0} (five : A) (model : List ℕ × A) (reads : A → B) (rule : Queue → B × Queue) (s t u : List ℕ) (r p : A)
@@ -21,11 +21,11 @@ pub looks-one : {A B : Type 0} (five : A) (model : A) (reads : A → B) (rule : 
     → Looks five model reads rule s r → Looks five model reads rule s p → r ≡ p
 looks-one five model reads rule s r p a b = a.does ∙ sym b.does
 
-pub lays_one : (s t u : List ℕ) (cap top : ℕ) (r p : LaidOut) → LayOutPromise s t cap top r → LayOutPromise s u cap top p → ◌≡◌ {A = List ℕ × LaidOut} (t, r) (u, p)
+pub lays_one : (s t u : List ℕ) (cap top : ℕ) (r p : Result ⊤ Refusal) → LayOutPromise s t cap top r → LayOutPromise s u cap top p → ◌≡◌ {A = List ℕ × Result ⊤ Refusal} (t, r) (u, p)
 lays_one s t u cap top r p a b = a.does ∙ sym b.does
 
 -- how many numbers a capacity takes
-pub needed_one : (capacity : ℕ) (r p : Needed) → NeedPromise capacity r → NeedPromise capacity p → r ≡ p
+pub needed_one : (capacity : ℕ) (r p : Result ℕ Refusal) → NeedPromise capacity r → NeedPromise capacity p → r ≡ p
 needed_one capacity r p a b = go (dec_le 1 capacity) (dec_le capacity limit)
   where
     go : Dec (1 ≤ capacity) → Dec (capacity ≤ limit) → r ≡ p

@@ -9,7 +9,6 @@ use Rattle.handle.specs.Numbers.{no_slot}
 use Rattle.handle.specs.declared.Handle as H
 use Rattle.arena.specs.Words.{field, PREV}
 use Rattle.arena.specs.inner.Slots.{handle_with}
-use Rattle.chain.specs.declared.Stepped as C
 use Rattle.chain.specs.inner.Steps.{followed, step_from, end_of}
 use Rattle.chain.proofs.StepLaws.{follow-none, follow-at}
 use Rattle.wavl.specs.Lists.{In, first, last}
@@ -31,6 +30,7 @@ use Rattle.queue_of_store.specs.Handles.{plain}
 use Rattle.queue_of_store.specs.inner.Meanings.{step_means}
 use Rattle.queue_of_store.proofs.Parts.{sound_of, words_of, few-slots, separate_of, live-low}
 use Rattle.queue_of_store.proofs.Live.{live-entry}
+use Rattle.std.specs.Prelude.{Ok, Option, Some}
 
 -- the slot of an end, if there is one
 abbrev pub slot_of : Option Entry → ℕ
@@ -78,7 +78,7 @@ module _ {s : List ℕ} {q : Queue} (h : Holds s q) where
   link-means (some y) i =
       let j = i y refl in
       let low : y.slot < cap = all_in (Under cap) (slots (entries q)) (live-low (separate_of (sound_of h))) y.slot (in_slots_lem y (entries q) j) in
-      let at : followed s cap y.slot ≡ C.TheVariants.At (handle_with y.slot y.generation) =
+      let at : followed s cap y.slot ≡ Ok (Some (handle_with y.slot y.generation)) =
       rw (← (live-entry h y j).generation-is) (follow-at s cap y.slot (few-slots (words_of h)) low) in
       ap step_means at
 

@@ -12,7 +12,6 @@ use Rattle.arena.specs.Words.{Long, field, put, head, KEY, LEFT, RIGHT, RANK, BA
 use Rattle.arena.specs.inner.Laying.{unlinked, blank_of}
 use Rattle.arena.specs.inner.Only.{Only, IsHeight}
 use Rattle.arena.specs.inner.Slots.{pushed, free_with, free_slot}
-use Rattle.arena.specs.declared.slots.Freed as F
 use Rattle.arena.proofs.WordLaws.{lit≢, length_put, field_at, field-same, field_off, head-same, field-put_head}
 use Rattle.arena.proofs.Only.{only-pushed}
 use Rattle.wavl.specs.Lists.{All, In}
@@ -20,6 +19,8 @@ use Rattle.rules.specs.Queue.{Handle, handle}
 use Rattle.rules.specs.Sound.{free_slots, Under}
 use Rattle.queue_of_store.specs.Free.{Blank, FreeAt, FreeStack, Retired}
 use Rattle.queue_of_store.proofs.Groups.{free-words_stay}
+use Rattle.arena.specs.declared.slots.Freed as F
+use Rattle.std.specs.Prelude.{Ok}
 
 -- a slot without an entry
 module _ (s : List ℕ) (cap i b : ℕ) (hi : i < cap) where
@@ -42,12 +43,12 @@ module _ (s : List ℕ) (cap i b : ℕ) (hi : i < cap) where
 
 -- "Removal raises it by one and frees the slot."
 module _ (s : List ℕ) (cap i h top g : ℕ) (eh : head s HEIGHT ≡ h) (et : head s TOP ≡ top) (eg : field s cap i GENERATION ≡ g) where
-  pub free-again : g < top → h < cap → free_slot s cap i ≡ (pushed s cap i h g, F.TheVariants.Again)
+  pub free-again : g < top → h < cap → free_slot s cap i ≡ (pushed s cap i h g, (Ok F.TheVariants.Again))
   unfolding free_slot free_with
   free-again l m = rw (eh, et, eg, lt-ltb g top l, lt-ltb h cap m)
 
   -- "At the top generation .. the slot is retired for good."
-  pub free-last : top ≤ g → free_slot s cap i ≡ (blank_of s cap i no_slot, F.TheVariants.GenerationOverflow)
+  pub free-last : top ≤ g → free_slot s cap i ≡ (blank_of s cap i no_slot, (Ok F.TheVariants.GenerationOverflow))
   unfolding free_slot free_with
   free-last l = rw (eh, et, eg, le-ltb g top l)
 

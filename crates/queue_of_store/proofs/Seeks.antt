@@ -8,7 +8,6 @@ use lib.ListN.{length}
 use Rattle.handle.specs.Numbers.{no_slot}
 use Rattle.arena.specs.Words.{field, head, KEY, LEFT, ROOT}
 use Rattle.arena.specs.inner.Budget.{budget}
-use Rattle.find.specs.declared.Found as F
 use Rattle.find.specs.inner.Seeking.{side_of_key, seek_from, seek_model}
 use Rattle.find.proofs.SeekLaws.{side-less, side-greater, seek-empty, seek-root, seek-equal, seek-beside, seek-down}
 use Rattle.wavl.specs.Entry.{Entry}
@@ -30,6 +29,8 @@ use Rattle.queue_of_store.specs.Holds.{Holds}
 use Rattle.queue_of_store.specs.inner.Meanings.{in_slots, side_no, found_means}
 use Rattle.queue_of_store.proofs.Parts.{sound_of, words_of, few-slots, size_few, under_budget}
 use Rattle.queue_of_store.proofs.Live.{live-entry}
+use Rattle.find.specs.declared.Found as F
+use Rattle.std.specs.Prelude.{Ok}
 
 module _ (s : List ℕ) (cap k : ℕ) (few : cap ≤ no_slot) where
   top-low : (t : Tree) (back : ℕ) → Links s cap back t → IsFork t → top_slot t < cap
@@ -43,7 +44,7 @@ module _ (s : List ℕ) (cap k : ℕ) (few : cap ≤ no_slot) where
       → seek_from (suc fuel) s cap k e.slot n ≡ in_slots (answer_at (find k c (step d e r u ∷ w)))
   unfolding find answer_at
   below fuel n d tip e r u w l x f g h low m rest = seek-beside fuel s cap k e.slot n l e.key x f (number d) no_slot g h refl
-      ∙ let c : n + 1 ≡ suc (length w) = omega arith in ap (λ z. F.TheVariants.Beside e.slot (number d) z) c
+      ∙ let c : n + 1 ≡ suc (length w) = omega arith in ap (λ z. Ok (F.TheVariants.Beside e.slot (number d) z)) c
   below fuel n d (fork a y q b) e r u w l x f g h low m rest =
       let ly : y.slot < cap = low tt in
       seek-down fuel s cap k e.slot n l e.key x f (number d) y.slot g h (λ z. omega arith) ∙ rest tt
@@ -66,8 +67,8 @@ module _ (s : List ℕ) (cap k : ℕ) (few : cap ≤ no_slot) where
       (λ z. below fuel n right b e r a w low key (λ y. omega arith) (side-greater k e.key (omega arith)) l.0.far-is (top-low b e.slot l.2) h
       (λ f. seek-tree b e.slot fuel (n + 1) (step right e r a ∷ w) f l.2 vb.1 x.1 (omega arith) (omega arith)))
     where
-      count : F.TheVariants.Equal e.slot (n + 1) ≡ F.TheVariants.Equal e.slot (suc (length w))
-      count = let c : n + 1 ≡ suc (length w) = omega arith in ap (λ z. F.TheVariants.Equal e.slot z) c
+      count : Ok (F.TheVariants.Equal e.slot (n + 1)) ≡ Ok (F.TheVariants.Equal e.slot (suc (length w)))
+      count = let c : n + 1 ≡ suc (length w) = omega arith in ap (λ z. Ok (F.TheVariants.Equal e.slot z)) c
 
   -- from the root, with the budget
   seek-root-tree : (t : Tree) → head s ROOT ≡ top_slot t → Links s cap no_slot t → AllEntries s cap (inorder t) → Ranks t → rank t ≤ budget

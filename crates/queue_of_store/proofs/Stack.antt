@@ -13,7 +13,6 @@ use Rattle.handle.specs.Numbers.{no_slot}
 use Rattle.arena.specs.Words.{Long, field, put, STACK, HEIGHT}
 use Rattle.arena.specs.inner.Only.{Only, IsHeight}
 use Rattle.arena.specs.inner.Slots.{handle_with, found_at, peek_from, peek_slot, popped, take_slot}
-use Rattle.arena.specs.declared.slots.Taken as T
 use Rattle.arena.proofs.WordLaws.{length_put, field-same, head-same, field-put_head}
 use Rattle.arena.proofs.Only.{only-popped}
 use Rattle.wavl.specs.Lists.{All}
@@ -21,15 +20,17 @@ use Rattle.rules.specs.Queue.{Handle}
 use Rattle.rules.specs.Sound.{free_slots, Under}
 use Rattle.queue_of_store.specs.Free.{FreeStack}
 use Rattle.queue_of_store.proofs.Groups.{free-words_stay}
+use Rattle.std.specs.Prelude.{Ok, Err}
+use Rattle.handle.specs.declared.Refusal.TheVariants.{NotWithinCapacity}
 
 -- "no slot is free"
-pub peek_none : (s : List ℕ) (cap : ℕ) → FreeStack s cap [] → peek_slot s cap ≡ T.TheVariants.Full
+pub peek_none : (s : List ℕ) (cap : ℕ) → FreeStack s cap [] → peek_slot s cap ≡ (Err NotWithinCapacity)
 unfolding peek_slot peek_from
 peek_none s cap w = rw w.height
 
 module _ (s : List ℕ) (cap : ℕ) (h : Handle) (l : List Handle) (few : suc (length l) ≤ cap) (low : h.slot < cap) (w : FreeStack s cap (h ∷ l)) where
   -- the list's first handle
-  pub peek_first : peek_slot s cap ≡ T.TheVariants.At (handle_with h.slot h.generation)
+  pub peek_first : peek_slot s cap ≡ Ok (handle_with h.slot h.generation)
   unfolding peek_slot peek_from found_at
   peek_first =
       let a : 1 ≤ suc (length l) = omega arith in
@@ -37,7 +38,7 @@ module _ (s : List ℕ) (cap : ℕ) (h : Handle) (l : List Handle) (few : suc (l
       let i : field s cap (length l) STACK ≡ h.slot = w.stacked.0.stack_is in
       rw (w.height, le-ltb (suc (length l)) 1 a, le-ltb cap (suc (length l)) few, m, i, lt-leb cap h.slot low, w.stacked.0.generation-is)
 
-  pub take-first : take_slot s cap ≡ (popped s cap (length l), T.TheVariants.At (handle_with h.slot h.generation))
+  pub take-first : take_slot s cap ≡ (popped s cap (length l), Ok (handle_with h.slot h.generation))
   unfolding take_slot
   take-first = let m : suc (length l) - 1 ≡ length l = omega arith in rw (peek_first, w.height, m)
 

@@ -7,38 +7,40 @@ use borrow.Author.Tests.{lt-ltb, le-ltb, le-leb, lt-leb, eq-eqb, ne_eqb}
 use Rattle.arena.specs.Words.{field, put, RIGHT, RANK, BACK}
 use Rattle.arena.specs.inner.Budget.{budget}
 use Rattle.tree.specs.inner.Links.{rank_of, side_of_child}
-use Rattle.tree.specs.declared.Climbed.{Climbed}
-use Rattle.tree.specs.declared.Climbed.TheVariants.{Done, Up}
 use Rattle.raise.specs.inner.Restructures.{turned_same, turned_across}
 use Rattle.raise.specs.declared.turns.Turn.{Turn}
 use Rattle.raise.specs.inner.Ranks.{above, raised_up, fix_with, fix_turn, raise_from, climbed_to, climbed_above, rebalanced}
+use Rattle.tree.specs.declared.Climbed.{Climbed}
+use Rattle.tree.specs.declared.Climbed.TheVariants.{Done, Up}
+use Rattle.std.specs.Prelude.{Result, Ok}
+use Rattle.handle.specs.declared.Refusal.{Refusal}
 
 module _ (s : List ℕ) (cap p2 p3 r1 : ℕ) (x : List ℕ) (e : x ≡ put s cap p2 RANK (r1 + 1)) where
-  pub raise-up : p3 < cap → (d : ℕ) → d ≡ side_of_child x cap p3 p2 → ◌≡◌ {A = List ℕ × Climbed} (x, Up p3 d) (raised_up s cap p2 p3 r1)
+  pub raise-up : p3 < cap → (d : ℕ) → d ≡ side_of_child x cap p3 p2 → ◌≡◌ {A = List ℕ × Result Climbed Refusal} (x, Ok (Up p3 d)) (raised_up s cap p2 p3 r1)
   unfolding raised_up above
   raise-up h d f = rw (← e, lt-ltb p3 cap h, f)
 
-  pub raise-done : cap ≤ p3 → ◌≡◌ {A = List ℕ × Climbed} (x, Done) (raised_up s cap p2 p3 r1)
+  pub raise-done : cap ≤ p3 → ◌≡◌ {A = List ℕ × Result Climbed Refusal} (x, Ok Done) (raised_up s cap p2 p3 r1)
   unfolding raised_up above
   raise-done h = rw (← e, le-ltb p3 cap h)
 
-pub fix_reads : (s : List ℕ) (cap p0 p1 p2 d01 d12 : ℕ) (x : List ℕ × Climbed) (r1 r2 p3 s1 rs1 : ℕ)
+pub fix_reads : (s : List ℕ) (cap p0 p1 p2 d01 d12 : ℕ) (x : List ℕ × Result Climbed Refusal) (r1 r2 p3 s1 rs1 : ℕ)
     → r1 ≡ field s cap p1 RANK → r2 ≡ field s cap p2 RANK → p3 ≡ field s cap p2 BACK → s1 ≡ field s cap p2 (RIGHT - d12) → rs1 ≡ rank_of s cap s1
     → x ≡ fix_with s cap d01 d12 (record { n0 = p0; n1 = p1; n2 = p2; n3 = p3; s1 = s1 }) r1 r2 rs1 → x ≡ fix_turn s cap p0 p1 p2 d01 d12
 unfolding fix_turn
 fix_reads s cap p0 p1 p2 d01 d12 x r1 r2 p3 s1 rs1 e₁ e₂ e₃ e₄ e₅ e = rw (← e₁, ← e₂, ← e₃, ← e₄, ← e₅) e
 
 module _ (s : List ℕ) (cap d01 d12 : ℕ) (t : Turn) (r1 r2 rs1 : ℕ) where
-  pub fix_low : r1 < r2 → ◌≡◌ {A = List ℕ × Climbed} (s, Done) (fix_with s cap d01 d12 t r1 r2 rs1)
+  pub fix_low : r1 < r2 → ◌≡◌ {A = List ℕ × Result Climbed Refusal} (s, Ok Done) (fix_with s cap d01 d12 t r1 r2 rs1)
   unfolding fix_with
   fix_low h = rw (lt-ltb r1 r2 h)
 
   module _ (over : r2 ≤ r1) (low : r1 < budget) (low₁ : rs1 < budget) (gap : rs1 + 1 ≡ r2 → ⊥) (x : List ℕ) where
-    pub fix_same : d01 ≡ d12 → x ≡ turned_same s cap d01 t → ◌≡◌ {A = List ℕ × Climbed} (x, Done) (fix_with s cap d01 d12 t r1 r2 rs1)
+    pub fix_same : d01 ≡ d12 → x ≡ turned_same s cap d01 t → ◌≡◌ {A = List ℕ × Result Climbed Refusal} (x, Ok Done) (fix_with s cap d01 d12 t r1 r2 rs1)
     unfolding fix_with
     fix_same d e = rw (le-ltb r1 r2 over, lt-leb budget r1 low, lt-leb budget rs1 low₁, ne_eqb (rs1 + 1) r2 gap, eq-eqb d01 d12 d, e)
 
-    pub fix_across : (d01 ≡ d12 → ⊥) → x ≡ turned_across s cap d12 t → ◌≡◌ {A = List ℕ × Climbed} (x, Done) (fix_with s cap d01 d12 t r1 r2 rs1)
+    pub fix_across : (d01 ≡ d12 → ⊥) → x ≡ turned_across s cap d12 t → ◌≡◌ {A = List ℕ × Result Climbed Refusal} (x, Ok Done) (fix_with s cap d01 d12 t r1 r2 rs1)
     unfolding fix_with
     fix_across d e = rw (le-ltb r1 r2 over, lt-leb budget r1 low, lt-leb budget rs1 low₁, ne_eqb (rs1 + 1) r2 gap, ne_eqb d01 d12 d, e)
 

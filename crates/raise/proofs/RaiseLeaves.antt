@@ -11,12 +11,13 @@ use Rattle.arena.proofs.Paths.{either}
 use Rattle.arena.proofs.Only.{only_none, only_trans, only-put}
 use Rattle.tree.specs.inner.Links.{side_of_child}
 use Rattle.tree.specs.inner.Kept.{TreeOnly}
-use Rattle.tree.specs.declared.Climbed.TheVariants.{Done, Up}
 use Rattle.tree.proofs.Climb.{Turned, turned-done, turned_bad, Settled, on_only}
 use Rattle.raise.specs.inner.Restructures.{lifted_one, turned_same, spread_below, turned_across}
 use Rattle.raise.specs.declared.turns.Turn.{Turn}
 use Rattle.raise.specs.inner.Ranks.{above, raised_up, fix_with, fix_turn, raise_from, climbed_to, climbed_above, rebalanced}
 use Rattle.tree.proofs.Keeps.{side-small, back-only, relinked-only, node-only, spread-only}
+use Rattle.tree.specs.declared.Climbed.TheVariants.{Done, Up}
+use Rattle.std.specs.Prelude.{Ok}
 
 module _ (s : List ℕ) (cap d : ℕ) (t : Turn) (h0 : t.n0 < cap) (h1 : t.n1 < cap) (h2 : t.n2 < cap) (hd : d ≤ 1) where
   pub same-only : TreeOnly s (turned_same s cap d t) cap
@@ -38,7 +39,7 @@ unfolding raised_up above
 raised-only s cap p2 p3 r1 h2 =
     let t = put s cap p2 RANK (r1 + 1) in
     let o : TreeOnly s t cap = only-put s p2 RANK (r1 + 1) h2 (omega arith) (omega arith) in
-    either (Turned s cap) (ltb p3 cap) (t, Up p3 (side_of_child t cap p3 p2)) (t, Done) (λ e. (o, (ltb-true p3 cap e, side-small _ _ _ _))) (λ e. (o, tt))
+    either (Turned s cap) (ltb p3 cap) (t, Ok (Up p3 (side_of_child t cap p3 p2))) (t, Ok Done) (λ e. (o, (ltb-true p3 cap e, side-small _ _ _ _))) (λ e. (o, tt))
 
 module _ (s : List ℕ) (cap d01 d12 : ℕ) (t : Turn) (h0 : t.n0 < cap) (h1 : t.n1 < cap) (h2 : t.n2 < cap) (e1 : d01 ≤ 1) (e2 : d12 ≤ 1) where
   with_only : (r1 r2 rs1 : ℕ) → Turned s cap (fix_with s cap d01 d12 t r1 r2 rs1)

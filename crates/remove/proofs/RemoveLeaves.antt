@@ -12,7 +12,6 @@ use Rattle.handle.specs.declared.Refusal.TheVariants.{InvalidPtr}
 use Rattle.arena.specs.Words.{field, head, BACK, GENERATION, TOP, HEIGHT}
 use Rattle.arena.specs.inner.Entries.{is_live}
 use Rattle.arena.specs.inner.Slots.{free_with, free_slot}
-use Rattle.arena.specs.declared.slots.Freed.{Freed}
 use Rattle.arena.specs.inner.Budget.{budget}
 use Rattle.arena.proofs.Paths.{either}
 use Rattle.arena.proofs.Only.{only_none, only_trans, only_weaken, only-blank, only-pushed}
@@ -29,9 +28,12 @@ use Rattle.remove.specs.inner.Take.{is_childless, settle_bare, settle_at, replac
 use Rattle.remove.specs.inner.Remove.{let_go, remove_live, remove_by}
 use Rattle.remove.specs.inner.Kept.{OthersKept}
 use Rattle.remove.specs.declared.lifting.Lifted.{Lifted}
+use Rattle.remove.proofs.RemoveReads.{live-low}
+use Rattle.arena.specs.declared.slots.Freed.{Freed}
 use Rattle.handle.specs.declared.Removed.{Removed}
 use Rattle.handle.specs.declared.Removed as D
-use Rattle.remove.proofs.RemoveReads.{live-low}
+use Rattle.std.specs.Prelude.{Result, Err}
+use Rattle.handle.specs.declared.Refusal.{Refusal}
 
 -- what was lifted touches the tree alone, and hung on a side
 abbrev pub LiftedWell : List ℕ → ℕ → List ℕ × Lifted → Type 0
@@ -92,10 +94,10 @@ take-only s cap i =
     (λ e. over_only s cap i (replacement_of s cap i))
 
 -- a slot freed, and an entry removed: every other entry and its handle stay
-abbrev pub FreedWell : List ℕ → ℕ → ℕ → List ℕ × Freed → Type 0
+abbrev pub FreedWell : List ℕ → ℕ → ℕ → List ℕ × (Result Freed Refusal) → Type 0
 FreedWell s cap i x = OthersKept s x.0 cap i
 
-abbrev pub RemovedWell : List ℕ → ℕ → ℕ → List ℕ × Removed → Type 0
+abbrev pub RemovedWell : List ℕ → ℕ → ℕ → List ℕ × (Result Removed Refusal) → Type 0
 RemovedWell s cap i x = OthersKept s x.0 cap i
 
 pub free-kept : (s : List ℕ) (cap i : ℕ) → i < cap → FreedWell s cap i (free_slot s cap i)
@@ -126,6 +128,6 @@ module _ (s : List ℕ) (cap : ℕ) (h : Handle) where
       (λ e. only_none)
 
   -- "Each refusal returns its number alone and changes nothing."
-  pub dead_refused : is_live s cap h ≡ false → remove_by s cap h ≡ (s, D.TheVariants.Refused InvalidPtr)
+  pub dead_refused : is_live s cap h ≡ false → remove_by s cap h ≡ (s, Err InvalidPtr)
   unfolding remove_by
   dead_refused e = rw e

@@ -8,12 +8,15 @@ use borrow.Author.Tests.{eq-eqb, ne_eqb, le-leb, lt-leb}
 use Rattle.handle.specs.Numbers.{no_slot}
 use Rattle.arena.specs.Words.{field, LEFT, RIGHT}
 use Rattle.arena.specs.inner.Budget.{budget}
-use Rattle.tree.specs.declared.Climbed.{Climbed}
-use Rattle.tree.specs.declared.Climbed.TheVariants.{Done, Up, NotSound}
 use Rattle.lower.specs.inner.Climb.{lower_one, lower_from}
 use Rattle.remove.specs.inner.Lift.{lift_out, node_replaced}
 use Rattle.remove.specs.inner.Take.{is_childless, settle_bare, settle_at, replacement_of, filled_from, filled_by, closed_from, take_over, take_out}
 use Rattle.remove.specs.declared.lifting.Lifted.{Lifted}
+use Rattle.tree.specs.declared.Climbed.{Climbed}
+use Rattle.tree.specs.declared.Climbed.TheVariants.{Done, Up}
+use Rattle.std.specs.Prelude.{Result, Ok, Err}
+use Rattle.handle.specs.declared.Refusal.TheVariants.{NotSound}
+use Rattle.handle.specs.declared.Refusal.{Refusal}
 
 pub childless_asks : (s : List ℕ) (cap i l r : ℕ) (t : Bool) → l ≡ field s cap i LEFT → l ≡ no_slot → r ≡ field s cap i RIGHT → t ≡ eqb r no_slot
     → t ≡ is_childless s cap i
@@ -21,16 +24,16 @@ unfolding is_childless
 childless_asks s cap i l r t e h f q = rw (← e, ← f, eq-eqb l no_slot h) q
 
 -- by the step up from a node left childless
-module _ (s : List ℕ) (cap q : ℕ) (x : List ℕ) (a : Climbed) (at : ◌≡◌ {A = List ℕ × Climbed} (x, a) (lower_one s cap q 1)) where
-  pub bare-up : (p d : ℕ) (r : List ℕ × Bool) → a ≡ Up p d → r ≡ lower_from budget x cap p d → r ≡ settle_bare s cap q
+module _ (s : List ℕ) (cap q : ℕ) (x : List ℕ) (a : Result Climbed Refusal) (at : ◌≡◌ {A = List ℕ × Result Climbed Refusal} (x, a) (lower_one s cap q 1)) where
+  pub bare-up : (p d : ℕ) (r : List ℕ × Bool) → a ≡ Ok (Up p d) → r ≡ lower_from budget x cap p d → r ≡ settle_bare s cap q
   unfolding settle_bare
   bare-up p d r e f = rw (← at, e) f
 
-  pub bare-done : a ≡ Done → (x, true) ≡ settle_bare s cap q
+  pub bare-done : a ≡ (Ok Done) → (x, true) ≡ settle_bare s cap q
   unfolding settle_bare
   bare-done e = rw (← at, e)
 
-  pub bare-refused : a ≡ NotSound → (x, false) ≡ settle_bare s cap q
+  pub bare-refused : a ≡ (Err NotSound) → (x, false) ≡ settle_bare s cap q
   unfolding settle_bare
   bare-refused e = rw (← at, e)
 

@@ -24,7 +24,6 @@ use Rattle.wavl.proofs.Rounds.{remove-root, remove_stop, remove-lower, remove-ro
 use Rattle.tree.specs.inner.Links.{spread_with}
 use Rattle.lower.specs.inner.Rotations.{turn_once, turn_twice_with, turn_twice}
 use Rattle.tree.specs.inner.Climb.{on_climbed}
-use Rattle.tree.specs.declared.Climbed.TheVariants.{Done}
 use Rattle.lower.specs.inner.Climb.{go_up, upward, lower_one, lowered_both, climb_turn, lower_from}
 use Rattle.queue_of_store.specs.Ends.{top_slot, number}
 use Rattle.queue_of_store.specs.Links.{Node, Links, TreeWords}
@@ -37,6 +36,8 @@ use Rattle.remove_means.proofs.RotationWords.{once-turned, twice_turned}
 use Rattle.remove_means.proofs.Lowered.{as_node, top-entry, node-other, lowered, up_to, goes_up}
 use Rattle.remove_means.proofs.Climbing.{peak, peak-above, Climbing, climb_up}
 use Rattle.remove_means.proofs.Turning.{turn-ends, turn-lowers, turn-rotates, turn-lowers-both, turn-rotates_twice}
+use Rattle.tree.specs.declared.Climbed.TheVariants.{Done}
+use Rattle.std.specs.Prelude.{Ok}
 
 pub onward-is : (q : Way) (fuel : ℕ) (t : List ℕ) (cap : ℕ) → on_climbed (up_to q) (λ p2 d2. lower_from fuel t cap p2 d2) t ≡ climb_up q fuel t cap
 onward-is [] fuel t cap = refl
@@ -81,7 +82,7 @@ module _ (s : List ℕ) (cap : ℕ) (few : cap ≤ no_slot) (l : List ℕ) (d : 
   top : r1 < budget
   top = let h = peak-above r1 q c.way.2 in let i = c.low in omega arith
 
-  ended : (t : List ℕ) (x : Tree) → climb_turn s cap i1 (number d) ≡ (t, Done) → TreeWords t cap x → LinksOnly s t cap l
+  ended : (t : List ℕ) (x : Tree) → climb_turn s cap i1 (number d) ≡ (t, Ok Done) → TreeWords t cap x → LinksOnly s t cap l
       → remove_climb n0 (step d e1 r1 s0 ∷ q) ≡ x → Out
   unfolding lower_from
   ended t x e v o r = rw (e, r) (record { yes = refl; words = v; only = o })

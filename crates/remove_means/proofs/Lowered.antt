@@ -14,8 +14,6 @@ use Rattle.wavl.specs.Tree.{Side, left, right, other, Tree, tip, fork, node, ran
 use Rattle.wavl.specs.Way.{step, Way, plug}
 use Rattle.wavl.proofs.Order.{node-same}
 use Rattle.tree.specs.inner.Links.{rank_of, side_of_child}
-use Rattle.tree.specs.declared.Climbed.{Climbed}
-use Rattle.tree.specs.declared.Climbed.TheVariants.{Done, Up}
 use Rattle.lower.specs.inner.Climb.{go_up_to, go_up}
 use Rattle.queue_of_store.specs.Ends.{top_slot, number}
 use Rattle.queue_of_store.specs.Links.{Links, TreeWords}
@@ -26,6 +24,10 @@ use Rattle.queue_of_store.proofs.Ways.{Parted, unplugged, distinct_in}
 use Rattle.queue_of_store.proofs.WayWrites.{one-sided}
 use Rattle.queue_of_store.proofs.NodeWrites.{new-rank}
 use Rattle.queue_of_store.proofs.AnyDepth.{Regrown, raised_at}
+use Rattle.tree.specs.declared.Climbed.{Climbed}
+use Rattle.tree.specs.declared.Climbed.TheVariants.{Done, Up}
+use Rattle.std.specs.Prelude.{Result, Ok}
+use Rattle.handle.specs.declared.Refusal.{Refusal}
 
 -- a tree that is none missing, over the side
 pub as_node : (d : Side) (x : Tree) → 1 ≤ rank x → x ≡ node d (child d x) (entry x) (rank x) (child (other d) x)
@@ -78,9 +80,9 @@ hung-side s cap few d e r u p x D w some =
     (one-sided cap (step d e r u ∷ p) x (top_slot x) few D some (slot-low s cap x e.slot w.below (top_slot x) some))
 
 -- where the climb goes on above a place
-abbrev pub up_to : Way → Climbed
-up_to [] = Done
-up_to (step d e r u ∷ p) = Up e.slot (number d)
+abbrev pub up_to : Way → Result Climbed Refusal
+up_to [] = Ok Done
+up_to (step d e r u ∷ p) = Ok (Up e.slot (number d))
 
 pub goes_up : (s : List ℕ) (cap : ℕ) → cap ≤ no_slot → (d : Side) (a : Tree) (e : Entry) (r : ℕ) (b : Tree) (p : Way)
     → Distinct (plug (node d a e r b) p) → TreeWords s cap (plug (node d a e r b) p) → go_up s cap e.slot ≡ up_to p

@@ -13,7 +13,6 @@ use Rattle.arena.specs.inner.Only.{Only, NoHead, IsHeight}
 use Rattle.arena.proofs.Only.{only-blank, only-pushed}
 use Rattle.arena.specs.inner.Laying.{blank_of}
 use Rattle.arena.specs.inner.Slots.{pushed, free_slot}
-use Rattle.arena.specs.declared.slots.Freed as F
 use Rattle.wavl.specs.Lists.{All, In, Differ, Once}
 use Rattle.wavl.specs.Entry.{Entry, slots}
 use Rattle.wavl.specs.Tree.{Tree, inorder}
@@ -33,6 +32,9 @@ use Rattle.queue_of_store.proofs.Groups.{unused_stays, tree_stays, chain_stays, 
 use Rattle.queue_of_store.proofs.Reshaped.{header_stays}
 use Rattle.queue_of_store.proofs.Freed.{free-again, free-last, retire, push_first}
 use Rattle.remove_means.proofs.Unchained.{Out}
+use Rattle.arena.specs.declared.slots.Freed as F
+use Rattle.std.specs.Prelude.{Result, Ok}
+use Rattle.handle.specs.declared.Refusal.{Refusal}
 
 -- the slot i, or a place of the stack
 abbrev pub FreedAt : ℕ → ℕ → ℕ → Type 0
@@ -43,9 +45,9 @@ abbrev pub released_to : {g top : ℕ} → Dec (g < top) → List ℕ → ℕ �
 released_to {g} (yes k) u cap i h = pushed u cap i h g
 released_to (no k) u cap i h = blank_of u cap i no_slot
 
-abbrev pub released_as : {g top : ℕ} → Dec (g < top) → F.Freed
-released_as (yes k) = F.TheVariants.Again
-released_as (no k) = F.TheVariants.GenerationOverflow
+abbrev pub released_as : {g top : ℕ} → Dec (g < top) → Result F.Freed Refusal
+released_as (yes k) = (Ok F.TheVariants.Again)
+released_as (no k) = (Ok F.TheVariants.GenerationOverflow)
 
 module _ (s u : List ℕ) (q : Queue) (d : Separate q) (l : List Entry) (x : Entry) (m : List Entry) (old : entries q ≡ l ++ (x ∷ m)) (t : Tree)
     (now : inorder t ≡ l ++ m) (k : Out s u q l x m t) where

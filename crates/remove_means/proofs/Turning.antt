@@ -5,8 +5,6 @@ use mathlib.Core.Path.{◌≡◌, ◌∙◌}
 use mathlib.Core.List.{List, ◌∷◌}
 use native.Mathlib.Omega.{arith}
 use borrow.Author.Tests.{eq-eqb, ne_eqb, le-leb, lt-leb}
-use Rattle.tree.specs.declared.Climbed.{Climbed}
-use Rattle.tree.specs.declared.Climbed.TheVariants.{Done}
 use Rattle.handle.specs.Numbers.{no_slot}
 use Rattle.arena.specs.inner.Budget.{budget}
 use Rattle.wavl.specs.Entry.{Entry}
@@ -22,13 +20,17 @@ use Rattle.queue_of_store.specs.inner.Ways.{parent}
 use Rattle.queue_of_store.proofs.Trees.{opened}
 use Rattle.queue_of_store.proofs.Ways.{Parted}
 use Rattle.remove_means.proofs.Lowered.{as_node, top-entry, rank_of_lem}
+use Rattle.tree.specs.declared.Climbed.{Climbed}
+use Rattle.tree.specs.declared.Climbed.TheVariants.{Done}
+use Rattle.std.specs.Prelude.{Result, Ok}
+use Rattle.handle.specs.declared.Refusal.{Refusal}
 
 module _ (s : List ℕ) (cap : ℕ) (few : cap ≤ no_slot) (d : Side) (n0 : Tree) (e1 : Entry) (r1 : ℕ) (s0 : Tree) (q : Way)
     (w : Parted s cap n0 (step d e1 r1 s0 ∷ q)) (low0 : rank n0 < budget) where
   abbrev i1 : ℕ
   i1 = e1.slot
 
-  abbrev turn : List ℕ × Climbed
+  abbrev turn : List ℕ × Result Climbed Refusal
   turn = climb_turn s cap i1 (number d)
 
   -- the site of the turn, by the slot i of n1's other child
@@ -39,7 +41,7 @@ module _ (s : List ℕ) (cap : ℕ) (few : cap ≤ no_slot) (d : Side) (n0 : Tre
   unfolding climb_turn
   turn-reads = rw (w.hook, w.way.0.far-is, w.way.0.rank_is, rank_of_lem s cap n0 i1 few w.below)
 
-  pub turn-ends : r1 ≤ rank n0 + 2 → turn ≡ (s, Done)
+  pub turn-ends : r1 ≤ rank n0 + 2 → turn ≡ (s, Ok Done)
   unfolding climb_turn_with
   turn-ends h = turn-reads ∙ rw (lt-leb budget (rank n0) low0, le-leb r1 (rank n0 + 2) h)
 
@@ -88,7 +90,7 @@ module _ (s : List ℕ) (cap : ℕ) (few : cap ≤ no_slot) (d : Side) (n0 : Tre
             rank_of_lem s cap b i0 few O.2,
           )
 
-      pub turn-rotates : rank b + 1 ≡ rank s0 → turn ≡ (turn_once s cap (number d) rotation, Done)
+      pub turn-rotates : rank b + 1 ≡ rank s0 → turn ≡ (turn_once s cap (number d) rotation, Ok Done)
       unfolding climb_past_with
       turn-rotates k = turn-past ∙ rw (lt-leb budget (rank a) lowa, lt-leb budget (rank b) lowb, eq-eqb (rank b + 1) (rank s0) k)
 
@@ -97,7 +99,7 @@ module _ (s : List ℕ) (cap : ℕ) (few : cap ≤ no_slot) (d : Side) (n0 : Tre
       turn-lowers-both k m = turn-past ∙ rw (lt-leb budget (rank a) lowa, lt-leb budget (rank b) lowb, ne_eqb (rank b + 1) (rank s0) k, eq-eqb (rank a + 2) (rank s0) m)
 
       pub turn-rotates_twice : ¬ (rank b + 1 ≡ rank s0) → ¬ (rank a + 2 ≡ rank s0) → top_slot a < cap
-          → turn ≡ (turn_twice s cap (number d) rotation, Done)
+          → turn ≡ (turn_twice s cap (number d) rotation, Ok Done)
       unfolding climb_past_with
       turn-rotates_twice k m l =
           turn-past

@@ -15,8 +15,7 @@ use Rattle.sound.specs.inner.Joints.{join_test}
 use Rattle.sound.specs.inner.Walking.{walk_node, walk_model}
 use Rattle.sound.specs.inner.Slots.{slot_test, place_test, slots_test}
 use Rattle.sound.specs.inner.Check.{unused_test}
-use Rattle.sound.specs.declared.walking.Walked.{Walked}
-use Rattle.sound.specs.declared.walking.Walked.TheVariants.{To, Broken}
+use Rattle.std.specs.Prelude.{Option, Some, None}
 
 -- the loop over the slots: i of them are left
 module _ (s : List ℕ) (cap top h : ℕ) where
@@ -75,35 +74,35 @@ unfolding node_test
 node-low s cap top back p t e f = leb-false cap p (no_refusal _ _ (sym e ∙ f)).0
 
 module _ (s : List ℕ) (cap top back p q : ℕ) where
-  pub walk-tip : (n : ℕ) → p ≡ no_slot → To q ≡ walk_model n s cap top back p q
+  pub walk-tip : (n : ℕ) → p ≡ no_slot → Some q ≡ walk_model n s cap top back p q
   unfolding walk_model
   walk-tip zero e = rw (eq-eqb p no_slot e)
   walk-tip (suc n) e = rw (eq-eqb p no_slot e)
 
   module _ (e : p ≡ no_slot → ⊥) where
-    pub walk-spent : (n : ℕ) → n < 1 → Broken ≡ walk_model n s cap top back p q
+    pub walk-spent : (n : ℕ) → n < 1 → None ≡ walk_model n s cap top back p q
     unfolding walk_model
     walk-spent zero l = rw (ne_eqb p no_slot e)
     walk-spent (suc n) l = absurd (omega arith)
 
     walk_open : (n : ℕ) → 1 ≤ n
         → walk_model n s cap top back p q
-        ≡ ifte (node_test s cap top back p) (walk_node s cap p (walk_model (n - 1) s cap top p (field s cap p LEFT) q) (walk_model (n - 1) s cap top p (field s cap p RIGHT) p)) Broken
+        ≡ ifte (node_test s cap top back p) (walk_node s cap p (walk_model (n - 1) s cap top p (field s cap p LEFT) q) (walk_model (n - 1) s cap top p (field s cap p RIGHT) p)) None
     unfolding walk_model
     walk_open zero l = absurd (omega arith)
     walk_open (suc n) l = let d : suc n - 1 ≡ n = omega arith in rw (d, ne_eqb p no_slot e)
 
     module _ (n : ℕ) (l : 1 ≤ n) (t : Bool) (f : t ≡ node_test s cap top back p) where
-      pub walk_refused : t ≡ false → Broken ≡ walk_model n s cap top back p q
+      pub walk_refused : t ≡ false → None ≡ walk_model n s cap top back p q
       walk_refused g = rw (walk_open n l, ← f, g)
 
-      module _ (g : t ≡ true) (a : ℕ) (d : a ≡ field s cap p LEFT) (x : Walked) (m : x ≡ walk_model (n - 1) s cap top p a q) where
-        pub walk_broken : x ≡ Broken → Broken ≡ walk_model n s cap top back p q
+      module _ (g : t ≡ true) (a : ℕ) (d : a ≡ field s cap p LEFT) (x : Option ℕ) (m : x ≡ walk_model (n - 1) s cap top p a q) where
+        pub walk_broken : x ≡ None → None ≡ walk_model n s cap top back p q
         walk_broken k = rw (walk_open n l, ← f, g, ← d, ← m, k)
 
-        module _ (y : ℕ) (k : x ≡ To y) (u : Bool) (j : u ≡ join_test s cap y p) where
-          pub walk-apart : u ≡ false → Broken ≡ walk_model n s cap top back p q
+        module _ (y : ℕ) (k : x ≡ Some y) (u : Bool) (j : u ≡ join_test s cap y p) where
+          pub walk-apart : u ≡ false → None ≡ walk_model n s cap top back p q
           walk-apart o = rw (walk_open n l, ← f, g, ← d, ← m, k, ← j, o)
 
-          pub walk_on : u ≡ true → (b : ℕ) → b ≡ field s cap p RIGHT → (z : Walked) → z ≡ walk_model (n - 1) s cap top p b p → z ≡ walk_model n s cap top back p q
+          pub walk_on : u ≡ true → (b : ℕ) → b ≡ field s cap p RIGHT → (z : Option ℕ) → z ≡ walk_model (n - 1) s cap top p b p → z ≡ walk_model n s cap top back p q
           walk_on o b h z w = rw (walk_open n l, ← f, g, ← d, ← m, k, ← j, o, ← h) w

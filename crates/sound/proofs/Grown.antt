@@ -23,36 +23,35 @@ use Rattle.queue_of_store.specs.Entries.{EntryWords, AllEntries}
 use Rattle.sound.specs.inner.Nodes.{node_test}
 use Rattle.sound.specs.inner.Joints.{join_test}
 use Rattle.sound.specs.inner.Walking.{walk_node, walk_model}
-use Rattle.sound.specs.declared.walking.Walked.{Walked}
-use Rattle.sound.specs.declared.walking.Walked.TheVariants.{To, Broken}
 use Rattle.sound.proofs.NodeFacts.{GoodNode, node_says, join_says}
 use Rattle.sound.proofs.Rows.{Joined, joined-both}
+use Rattle.std.specs.Prelude.{Option, Some, None}
 
 -- the slot of a walk's answer, one more than it; 0 where it broke off
-abbrev met : Walked → ℕ
-met (To x) = suc x
-met Broken = 0
+abbrev met : (Option ℕ) → ℕ
+met (Some x) = suc x
+met None = 0
 
-pub same_met : (x y : ℕ) → To x ≡ To y → x ≡ y
+pub same_met : (x y : ℕ) → Some x ≡ Some y → x ≡ y
 same_met x y e = let f : suc x ≡ suc y = ap met e in omega arith
 
-pub unbroken : {A : Type 0} (x : ℕ) → Broken ≡ To x → A
+pub unbroken : {A : Type 0} (x : ℕ) → None ≡ Some x → A
 unbroken x e = absurd (let f : 0 ≡ suc x = ap met e in omega arith)
 
-tested_on : (t : Bool) (w : Walked) (x : ℕ) → ifte t w Broken ≡ To x → (t ≡ true) × (w ≡ To x)
+tested_on : (t : Bool) (w : Option ℕ) (x : ℕ) → ifte t w None ≡ Some x → (t ≡ true) × (w ≡ Some x)
 tested_on true w x e = (refl, e)
 tested_on false w x e = unbroken x e
 
 -- the parts of a node's walk
-record Parts (s : List ℕ) (cap p : ℕ) (near far : Walked) (x : ℕ) : Type 0 where
+record Parts (s : List ℕ) (cap p : ℕ) (near far : Option ℕ) (x : ℕ) : Type 0 where
   y : ℕ
-  near-is : near ≡ To y
+  near-is : near ≡ Some y
   joins : join_test s cap y p ≡ true
-  far-is : far ≡ To x
+  far-is : far ≡ Some x
 
-parts : (s : List ℕ) (cap p : ℕ) (near far : Walked) (x : ℕ) → walk_node s cap p near far ≡ To x → Parts s cap p near far x
-parts s cap p (To y) far x e = let a = tested_on _ _ x e in record { y = y; near-is = refl; joins = a.0; far-is = a.1 }
-parts s cap p Broken far x e = unbroken x e
+parts : (s : List ℕ) (cap p : ℕ) (near far : Option ℕ) (x : ℕ) → walk_node s cap p near far ≡ Some x → Parts s cap p near far x
+parts s cap p (Some y) far x e = let a = tested_on _ _ x e in record { y = y; near-is = refl; joins = a.0; far-is = a.1 }
+parts s cap p None far x e = unbroken x e
 
 module _ (s : List ℕ) (cap : ℕ) where
   -- the entry that the words of a slot hold
@@ -109,7 +108,7 @@ module _ (s : List ℕ) (cap top : ℕ) (few : cap ≤ no_slot) where
         generations = all_both (LiveGeneration top) (inorder a.tree) (entry_at s cap p ∷ inorder b.tree) a.generations (n.generation, b.generations);
       }
 
-  pub grown : (n back p q x : ℕ) → walk_model n s cap top back p q ≡ To x → Grown s cap top back p q x
+  pub grown : (n back p q x : ℕ) → walk_model n s cap top back p q ≡ Some x → Grown s cap top back p q x
   unfolding walk_model
   grown zero back p q x w = go (ℕ_discrete p no_slot)
     where
@@ -118,8 +117,8 @@ module _ (s : List ℕ) (cap top : ℕ) (few : cap ≤ no_slot) where
       go (no e) = unbroken x (rw (ne_eqb p no_slot e) at w)
   grown (suc n) back p q x w = go (ℕ_discrete p no_slot) (grown n p (field s cap p LEFT) q) (grown n p (field s cap p RIGHT) p x)
     where
-      go : Dec (p ≡ no_slot) → ((y : ℕ) → walk_model n s cap top p (field s cap p LEFT) q ≡ To y → Grown s cap top p (field s cap p LEFT) q y)
-          → (walk_model n s cap top p (field s cap p RIGHT) p ≡ To x → Grown s cap top p (field s cap p RIGHT) p x) → Grown s cap top back p q x
+      go : Dec (p ≡ no_slot) → ((y : ℕ) → walk_model n s cap top p (field s cap p LEFT) q ≡ Some y → Grown s cap top p (field s cap p LEFT) q y)
+          → (walk_model n s cap top p (field s cap p RIGHT) p ≡ Some x → Grown s cap top p (field s cap p RIGHT) p x) → Grown s cap top back p q x
       go (yes e) l r = grown-tip back p q x e (same_met q x (rw (eq-eqb p no_slot e) at w))
       go (no e) l r =
           let a = tested_on (node_test s cap top back p) _ x (rw (ne_eqb p no_slot e) at w) in

@@ -17,11 +17,11 @@ use Rattle.queue_of_store.proofs.Chains.{end_or}
 use Rattle.queue_of_store.proofs.Parts.{sound_of, words_of, few-slots, separate_of, live-low}
 use Rattle.sound.specs.inner.Walking.{walk_model, whole_test}
 use Rattle.sound.specs.inner.Check.{top_test, unused_test, rules_with, rules_test, sound_model}
-use Rattle.sound.specs.declared.walking.Walked.TheVariants.{To}
 use Rattle.sound.proofs.NodeFacts.{join_is}
 use Rattle.sound.proofs.SlotFacts.{slots-are}
 use Rattle.sound.proofs.Walks.{walks, row_of, end_of_lem}
 use Rattle.sound.proofs.Hung.{high, shallow, good}
+use Rattle.std.specs.Prelude.{Some}
 
 unused-is : (s : List ℕ) (n : ℕ) → ((k : ℕ) → k < n → head s (6 + k) ≡ 0) → unused_test n s ≡ true
 unfolding unused_test
@@ -35,7 +35,7 @@ module _ {s : List ℕ} {q : Queue} (k : Holds s q) where
       let few = few-slots (words_of k) in
       let low = live-low (separate_of (sound_of k)) in
       let h = shallow k in
-      let w : walk_model budget s q.capacity q.top no_slot (head s ROOT) no_slot ≡ To (end_or no_slot (entries q)) =
+      let w : walk_model budget s q.capacity q.top no_slot (head s ROOT) no_slot ≡ Some (end_or no_slot (entries q)) =
       rw k.rule_1.root (walks s q.capacity few q.top q.tree budget no_slot no_slot _ k.rule_1.links (ranked→ranks q.tree k.rule_2) k.live
       k.rule_6.live (row_of s q.capacity few (entries q) low k.rule_3 k.live k.rule_4) (omega arith)) in
       rw w (join_is s q.capacity _ no_slot (end_of_lem s q.capacity few (entries q) low k.rule_3))

@@ -18,11 +18,10 @@ use Rattle.sound.specs.inner.Nodes.{node_test}
 use Rattle.sound.specs.inner.Joints.{join_test}
 use Rattle.sound.specs.inner.Walking.{walk_model}
 use Rattle.sound.specs.inner.Visits.{visits, all_visits}
-use Rattle.sound.specs.declared.walking.Walked.{Walked}
-use Rattle.sound.specs.declared.walking.Walked.TheVariants.{To, Broken}
 use Rattle.sound.proofs.NodeFacts.{node_says, join_says}
 use Rattle.sound.proofs.Rows.{before-slot}
 use Rattle.sound.proofs.Grown.{same_met, unbroken}
+use Rattle.std.specs.Prelude.{Option, Some, None}
 
 -- the slots joined so far, the last one first
 abbrev latest : List ℕ → ℕ
@@ -57,17 +56,17 @@ module _ (s : List ℕ) (cap : ℕ) (few : cap ≤ no_slot) where
   once (i ∷ l) t = (off l t.2 i l t (omega arith), once l t.2)
 
   -- a walk that tested c nodes and came to w, with n levels to go, after the slots `done`
-  record Went (c : ℕ) (w : Walked) (n : ℕ) (done : List ℕ) : Type 0 where
+  record Went (c : ℕ) (w : Option ℕ) (n : ℕ) (done : List ℕ) : Type 0 where
     joined : List ℕ
     trail : Trail s cap joined
     bound : c + length done ≤ length joined + n
-    full : (x : ℕ) → w ≡ To x → (latest joined ≡ x) × (c + length done ≡ length joined)
+    full : (x : ℕ) → w ≡ Some x → (latest joined ≡ x) × (c + length done ≡ length joined)
 
   -- nothing was joined, and no or one node tested
-  stayed : (c n : ℕ) (done : List ℕ) → Trail s cap done → c ≤ n → Went c Broken n done
+  stayed : (c n : ℕ) (done : List ℕ) → Trail s cap done → c ≤ n → Went c None n done
   stayed c n done t h = record { joined = done; trail = t; bound = omega arith; full = λ x e. unbroken x e }
 
-  passed : (q n : ℕ) (done : List ℕ) → Trail s cap done → q ≡ latest done → Went 0 (To q) n done
+  passed : (q n : ℕ) (done : List ℕ) → Trail s cap done → q ≡ latest done → Went 0 (Some q) n done
   passed q n done t e = record { joined = done; trail = t; bound = omega arith; full = λ x f. (sym e ∙ same_met q x f, omega arith) }
 
   module _ (top : ℕ) where
@@ -87,16 +86,16 @@ module _ (s : List ℕ) (cap : ℕ) (few : cap ≤ no_slot) where
         r : ℕ
         r = visits n s cap top p (field s cap p RIGHT) p
 
-        near : Walked
+        near : (Option ℕ)
         near = walk_model n s cap top p (field s cap p LEFT) q
 
-        far : Walked
+        far : (Option ℕ)
         far = walk_model n s cap top p (field s cap p RIGHT) p
 
         Whole : Type 0
         Whole = Went (visits (suc n) s cap top back p q) (walk_model (suc n) s cap top back p q) (suc n) done
 
-        joins : ¬ (p ≡ no_slot) → node_test s cap top back p ≡ true → (a : Went l near n done) → (y : ℕ) → near ≡ To y → (u : Bool) → join_test s cap y p ≡ u
+        joins : ¬ (p ≡ no_slot) → node_test s cap top back p ≡ true → (a : Went l near n done) → (y : ℕ) → near ≡ Some y → (u : Bool) → join_test s cap y p ≡ u
             → ((done : List ℕ) → Trail s cap done → p ≡ latest done → Went r far n done) → Whole
         joins f g a y k false j b =
             let z = a.full y k in
@@ -110,10 +109,10 @@ module _ (s : List ℕ) (cap : ℕ) (few : cap ≤ no_slot) where
             rw (ne_eqb p no_slot f, g, k, j)
             (record { joined = d.joined; trail = d.trail; bound = let o = d.bound in omega arith; full = λ x h. let w = d.full x h in (w.0, let o = w.1 in omega arith) })
 
-        left : ¬ (p ≡ no_slot) → node_test s cap top back p ≡ true → Went l near n done → (w : Walked) → near ≡ w
+        left : ¬ (p ≡ no_slot) → node_test s cap top back p ≡ true → Went l near n done → (w : Option ℕ) → near ≡ w
             → ((done : List ℕ) → Trail s cap done → p ≡ latest done → Went r far n done) → Whole
-        left f g a (To y) k b = joins f g a y k (join_test s cap y p) refl b
-        left f g a Broken k b =
+        left f g a (Some y) k b = joins f g a y k (join_test s cap y p) refl b
+        left f g a None k b =
             rw (ne_eqb p no_slot f, g, k) (record { joined = a.joined; trail = a.trail; bound = let o = a.bound in omega arith; full = λ x h. unbroken x h })
 
         node : ¬ (p ≡ no_slot) → (u : Bool) → node_test s cap top back p ≡ u → Went l near n done

@@ -21,11 +21,11 @@ use Rattle.queue_of_store.specs.Entries.{EntryWords, AllEntries}
 use Rattle.queue_of_store.proofs.Chains.{end_or, end_last}
 use Rattle.sound.specs.inner.Joints.{after_of}
 use Rattle.sound.specs.inner.Walking.{walk_model}
-use Rattle.sound.specs.declared.walking.Walked.TheVariants.{To}
 use Rattle.sound.proofs.CheckTurns.{walk-tip, walk_on}
 use Rattle.sound.proofs.NodeFacts.{GoodNode, node-is, Joint, join_is}
 use Rattle.sound.proofs.Rows.{Joined, after-slot, before-slot, after_none, before-none}
 use Rattle.sound.proofs.Grown.{rank-none, rank-some}
+use Rattle.std.specs.Prelude.{Some}
 
 -- a row in two parts, and the slot between them
 record Split (s : List ℕ) (cap q : ℕ) (l m : List Entry) (x : ℕ) : Type 0 where
@@ -54,9 +54,9 @@ module _ (s : List ℕ) (cap : ℕ) (few : cap ≤ no_slot) where
     }
 
     pub walks : (t : Tree) (n back q x : ℕ) → Links s cap back t → Ranks t → AllEntries s cap (inorder t) → All (LiveGeneration top) (inorder t)
-        → Joined s cap q (inorder t) x → rank t ≤ n → walk_model n s cap top back (top_slot t) q ≡ To x
+        → Joined s cap q (inorder t) x → rank t ≤ n → walk_model n s cap top back (top_slot t) q ≡ Some x
     unfolding inorder
-    walks tip n back q x w k v g j h = sym (walk-tip s cap top back no_slot q n refl) ∙ ap To j
+    walks tip n back q x w k v g j h = sym (walk-tip s cap top back no_slot q n refl) ∙ ap Some j
     walks (fork a e r b) n back q x w k v g j h =
         let f = k.2 in
         let low : e.slot < cap = w.0.low in
@@ -70,8 +70,8 @@ module _ (s : List ℕ) (cap : ℕ) (few : cap ≤ no_slot) where
         let far = walks b (n - 1) e.slot e.slot x w.2 k.1 v₁.1 g₁.1 z.far.1 (let o = f.over_b in omega arith) in
         let join = join_is s cap z.y e.slot z.far.0 in
         let one : 1 ≤ n = let o = f.over_a in omega arith in
-        sym (walk_on s cap top back e.slot q ne n one true (sym node) refl (top_slot a) (sym w.0.near-is) (To z.y) (sym near) z.y refl true (sym join)
-        refl (top_slot b) (sym w.0.far-is) (To x) (sym far))
+        sym (walk_on s cap top back e.slot q ne n one true (sym node) refl (top_slot a) (sym w.0.near-is) (Some z.y) (sym near) z.y refl true (sym join)
+        refl (top_slot b) (sym w.0.far-is) (Some x) (sym far))
 
   -- the chain of the words is a row
   next_of : (e : Entry) (l : List Entry) (p : ℕ) → e.slot < cap → Chain s cap p (e ∷ l) → after_of s cap e.slot ≡ first_slot l

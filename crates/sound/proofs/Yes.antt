@@ -12,8 +12,6 @@ use Rattle.handle.specs.Numbers.{no_slot, top_limit}
 use Rattle.arena.specs.Words.{field, head, RANK, BACK, TOP, HEIGHT, ROOT}
 use Rattle.arena.specs.Header.{header_of, Passing}
 use Rattle.arena.proofs.Theorems.{passing}
-use Rattle.arena.specs.declared.header.Header.{Header}
-use Rattle.arena.specs.declared.header.Header.TheVariants.{Passes, Fails}
 use Rattle.arena.specs.inner.Budget.{budget}
 use Rattle.wavl.specs.Lists.{All, In}
 use Rattle.wavl.specs.Entry.{slots}
@@ -35,8 +33,6 @@ use Rattle.sound.specs.inner.Joints.{join_test}
 use Rattle.sound.specs.inner.Walking.{onward, walk_model, whole_test}
 use Rattle.sound.specs.inner.Slots.{slots_test}
 use Rattle.sound.specs.inner.Check.{top_test, unused_test, rules_with, rules_test, headed, sound_model}
-use Rattle.sound.specs.declared.walking.Walked.{Walked}
-use Rattle.sound.specs.declared.walking.Walked.TheVariants.{To, Broken}
 use Rattle.sound.proofs.Choices.{not_yes, both_say}
 use Rattle.sound.proofs.NodeFacts.{Joint, join_says}
 use Rattle.sound.proofs.SlotFacts.{AtRest, Good, slots_say}
@@ -44,6 +40,8 @@ use Rattle.sound.proofs.Rows.{chain-words, rising-from, once-chain}
 use Rattle.sound.proofs.Grown.{Grown, grown}
 use Rattle.sound.proofs.Reached.{reached}
 use Rattle.sound.proofs.FreeList.{free_list, free_length, free_in, once-both, free-words, free-low, free-generations, free-rank, free-once}
+use Rattle.std.specs.Prelude.{Result, Ok, Err, Option, Some, None}
+use Rattle.handle.specs.declared.Refusal.{Refusal}
 
 -- the walk from the root came to its end
 record Walk (s : List ℕ) (cap top : ℕ) : Type 0 where
@@ -55,9 +53,9 @@ whole_says : (s : List ℕ) (cap top : ℕ) → cap ≤ no_slot → whole_test s
 unfolding whole_test
 whole_says s cap top few e = go (walk_model budget s cap top no_slot (head s ROOT) no_slot) refl e
   where
-    go : (w : Walked) → walk_model budget s cap top no_slot (head s ROOT) no_slot ≡ w → onward w (λ x. join_test s cap x no_slot) false ≡ true → Walk s cap top
-    go (To x) f g = record { x = x; seen = grown s cap top few budget no_slot (head s ROOT) no_slot x f; last = join_says s cap x no_slot g }
-    go Broken f g = not_yes g
+    go : (w : Option ℕ) → walk_model budget s cap top no_slot (head s ROOT) no_slot ≡ w → onward w (λ x. join_test s cap x no_slot) false ≡ true → Walk s cap top
+    go (Some x) f g = record { x = x; seen = grown s cap top few budget no_slot (head s ROOT) no_slot x f; last = join_says s cap x no_slot g }
+    go None f g = not_yes g
 
 unused_says : (s : List ℕ) (n : ℕ) → unused_test n s ≡ true → (k : ℕ) → k < n → head s (6 + k) ≡ 0
 unfolding unused_test
@@ -188,6 +186,6 @@ pub yes-is-right : (s : List ℕ) → sound_model s ≡ true → SoundStore s
 unfolding sound_model
 yes-is-right s e = go (header_of s) refl e
   where
-    go : (h : Header) → header_of s ≡ h → headed s h ≡ true → SoundStore s
-    go (Passes cap) f g = let p = rules_say s cap (passing s cap f) g in (queue s cap p, holds s cap p)
-    go Fails f g = not_yes g
+    go : (h : Result ℕ Refusal) → header_of s ≡ h → headed s h ≡ true → SoundStore s
+    go (Ok cap) f g = let p = rules_say s cap (passing s cap f) g in (queue s cap p, holds s cap p)
+    go (Err n) f g = not_yes g

@@ -7,9 +7,12 @@ use Rattle.arena.proofs.Only.{only_none, only_trans}
 use Rattle.tree.specs.inner.Climb.{Standing, on_climbed}
 use Rattle.tree.specs.inner.Kept.{TreeOnly}
 use Rattle.tree.specs.declared.Climbed.{Climbed}
-use Rattle.tree.specs.declared.Climbed.TheVariants.{Done, Up, NotSound}
+use Rattle.tree.specs.declared.Climbed.TheVariants.{Done, Up}
+use Rattle.std.specs.Prelude.{Result, Ok, Err}
+use Rattle.handle.specs.declared.Refusal.TheVariants.{NotSound}
+use Rattle.handle.specs.declared.Refusal.{Refusal}
 
-module _ (cap : ℕ) (a : Climbed) (p d : ℕ) (e : a ≡ Up p d) (h : Standing cap a) where
+module _ (cap : ℕ) (a : Result Climbed Refusal) (p d : ℕ) (e : a ≡ Ok (Up p d)) (h : Standing cap a) where
   pub up-low : p < cap
   up-low = (rw e at h).0
 
@@ -17,13 +20,13 @@ module _ (cap : ℕ) (a : Climbed) (p d : ℕ) (e : a ≡ Up p d) (h : Standing 
   up-side = (rw e at h).1
 
 -- a turn touches the tree alone, and its answer can be used
-abbrev pub Turned : List ℕ → ℕ → List ℕ × Climbed → Type 0
+abbrev pub Turned : List ℕ → ℕ → List ℕ × (Result Climbed Refusal) → Type 0
 Turned s cap x = TreeOnly s x.0 cap × Standing cap x.1
 
-pub turned-done : (s t : List ℕ) (cap : ℕ) → TreeOnly s t cap → Turned s cap (t, Done)
+pub turned-done : (s t : List ℕ) (cap : ℕ) → TreeOnly s t cap → Turned s cap (t, Ok Done)
 turned-done s t cap o = (o, tt)
 
-pub turned_bad : (s : List ℕ) (cap : ℕ) → Turned s cap (s, NotSound)
+pub turned_bad : (s : List ℕ) (cap : ℕ) → Turned s cap (s, Err NotSound)
 turned_bad s cap = (only_none, tt)
 
 -- a whole climb touches the tree alone
@@ -31,8 +34,8 @@ abbrev pub Settled : List ℕ → ℕ → List ℕ × Bool → Type 0
 Settled s cap x = TreeOnly s x.0 cap
 
 -- by a turn's answer: `go` is the climb from there on
-pub on_only : (s t : List ℕ) (cap : ℕ) (a : Climbed) (go : ℕ → ℕ → List ℕ × Bool) → TreeOnly s t cap → Standing cap a
+pub on_only : (s t : List ℕ) (cap : ℕ) (a : Result Climbed Refusal) (go : ℕ → ℕ → List ℕ × Bool) → TreeOnly s t cap → Standing cap a
     → ((p d : ℕ) → p < cap → d ≤ 1 → Settled t cap (go p d)) → Settled s cap (on_climbed a go t)
-on_only s t cap (Up p d) go o i f = only_trans o (f p d i.0 i.1)
-on_only s t cap Done go o i f = o
-on_only s t cap NotSound go o i f = o
+on_only s t cap (Ok (Up p d)) go o i f = only_trans o (f p d i.0 i.1)
+on_only s t cap (Ok Done) go o i f = o
+on_only s t cap (Err n) go o i f = o

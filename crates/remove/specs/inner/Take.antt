@@ -2,22 +2,23 @@
 -- Document 01: "A node with a child is node_replaced by its chain prev, or by its next if it has rank 2 and no left child, or no prev; the
 -- replacement takes its rank and place. [..] Then climb from the parent n1 of the emptied place, its child there being n0. If that parent
 -- is left childless it gets rank 1 and the climb goes one up."
-use Rattle.std.specs.Prelude.{ℕ, Bool, true, false, List, leb, eqb}
+use Rattle.std.specs.Prelude.{ℕ, Bool, true, false, List, leb, eqb, Result}
 use Rattle.handle.specs.Numbers.{no_slot}
 use Rattle.arena.specs.Branch.{ifte}
 use Rattle.arena.specs.Words.{field, LEFT, RIGHT, PREV, NEXT}
 use Rattle.arena.specs.inner.Budget.{budget}
 use Rattle.tree.specs.inner.Climb.{on_climbed}
-use Rattle.tree.specs.declared.Climbed.{Climbed}
 use Rattle.lower.specs.inner.Climb.{lower_one, lower_from}
 use Rattle.remove.specs.inner.Lift.{lift_out, node_replaced}
 use Rattle.remove.specs.declared.lifting.Lifted.{Lifted}
+use Rattle.tree.specs.declared.Climbed.{Climbed}
+use Rattle.handle.specs.declared.Refusal.{Refusal}
 
 unfoldable pub is_childless : List ℕ → ℕ → ℕ → Bool
 is_childless s cap i = ifte (eqb (field s cap i LEFT) no_slot) (eqb (field s cap i RIGHT) no_slot) false
 
 -- the climb from where a step up has come
-abbrev pub climb_on : List ℕ × Climbed → ℕ → List ℕ × Bool
+abbrev pub climb_on : List ℕ × (Result Climbed Refusal) → ℕ → List ℕ × Bool
 climb_on x cap = on_climbed x.1 (lower_from budget x.0 cap) x.0
 
 -- a node left childless gets rank 1, and the climb goes one up

@@ -1,13 +1,12 @@
 -- The check, as a function of the store, for any words: the header, then rules 1 to 7 of document 01.
-use Rattle.std.specs.Prelude.{ℕ, zero, suc, ◌+◌, Bool, true, false, List, ltb, eqb}
+use Rattle.std.specs.Prelude.{ℕ, zero, suc, ◌+◌, Bool, true, false, List, ltb, eqb, Result, Ok, Err}
 use Rattle.arena.specs.Branch.{ifte}
 use Rattle.handle.specs.Numbers.{top_limit}
 use Rattle.arena.specs.Words.{head, TOP, HEIGHT}
 use Rattle.arena.specs.Header.{header_of}
-use Rattle.arena.specs.declared.header.Header.{Header}
-use Rattle.arena.specs.declared.header.Header.TheVariants.{Passes, Fails}
 use Rattle.sound.specs.inner.Slots.{slots_test}
 use Rattle.sound.specs.inner.Walking.{whole_test}
+use Rattle.handle.specs.declared.Refusal.{Refusal}
 
 -- rule 6: "The top lies in its range"
 unfoldable pub top_test : ℕ → Bool
@@ -29,9 +28,9 @@ rules_with s cap top h =
 unfoldable pub rules_test : List ℕ → ℕ → Bool
 rules_test s cap = rules_with s cap (head s TOP) (head s HEIGHT)
 
-abbrev pub headed : List ℕ → Header → Bool
-headed s (Passes cap) = rules_test s cap
-headed s Fails = false
+abbrev pub headed : List ℕ → Result ℕ Refusal → Bool
+headed s (Ok cap) = rules_test s cap
+headed s (Err n) = false
 
 unfoldable pub sound_model : List ℕ → Bool
 sound_model s = headed s (header_of s)
