@@ -51,34 +51,9 @@ module _ (s : List ℕ) (cap : ℕ) where
   pub peek_slot_lem : (x : Result Handle Refusal) (p i : ℕ) → i ≡ field s cap p STACK → x ≡ found_at s cap i → x ≡ found_at s cap (field s cap p STACK)
   peek_slot_lem x p i e q = rw (← e) q
 
-  pub peek_at : (i : ℕ) (r : Handle) (g : ℕ) → i < cap → r.slot ≡ record { 0 = i } → r.generation ≡ record { 0 = g } → g ≡ field s cap i GENERATION
-      → Ok r ≡ found_at s cap i
+  pub peek_at : (i : ℕ) (r : Handle) → i < cap → r ≡ handle_with i (field s cap i GENERATION) → Ok r ≡ found_at s cap i
   unfolding found_at
-  peek_at i r g l e f k = rw (lt-leb cap i l) (ap Ok (handle-is r i g _ e f k))
-
-  -- what `take` knows after the match on what was found
-  module _ (r : Result Handle Refusal) (is : r ≡ peek_slot s cap) where
-    pub take_at : (h : Handle) (p : ℕ) (x : List ℕ) → r ≡ Ok h → p ≡ head s HEIGHT → x ≡ popped s cap (p - 1)
-        → ◌≡◌ {A = List ℕ × Result Handle Refusal} (x, Ok h) (take_slot s cap)
-    unfolding take_slot
-    take_at h p x e f q = rw (← is, e, ← f) (wrote _ _ _ q)
-
-    pub take_refused : (n : Refusal) → r ≡ Err n → ◌≡◌ {A = List ℕ × Result Handle Refusal} (s, Err n) (take_slot s cap)
-    unfolding take_slot
-    take_refused n e = rw (← is, e)
-
-  module _ (r : Result Handle Refusal) (lies : PeekedIn s cap r) (h : Handle) (e : r ≡ Ok h) where
-    found_as : PeekedIn s cap (Ok h)
-    found_as = rw e at lies
-
-    pub found_low : (p : ℕ) → p ≡ head s HEIGHT → 1 ≤ p
-    found_low p f = let g = found_as in rw f g.1
-
-    pub found_place : (p : ℕ) → p ≡ head s HEIGHT → p - 1 < cap
-    found_place p f = let g = found_as in rw f (omega arith)
-
-    pub found_slot : h.slot.0 < cap
-    found_slot = found_as.0
+  peek_at i r l e = rw (lt-leb cap i l) (ap Ok e)
 
   -- the four steps of a slot's way onto the stack
   pub push_is : (i h g : ℕ) (t u v w : List ℕ) → t ≡ blank_of s cap i h → u ≡ put t cap i GENERATION (g + 1) → v ≡ put u cap h STACK i → w ≡ put_head v HEIGHT (h + 1)
@@ -130,8 +105,8 @@ module _ (s : List ℕ) (cap top : ℕ) where
   unfolding lay_out_words
   lay_refused g = rw g
 
-pub found_in_lem : (s : List ℕ) (cap h i : ℕ) (r : Handle) → h ≡ head s HEIGHT → 1 ≤ h → h ≤ cap → r.slot ≡ record { 0 = i } → i < cap → PeekedIn s cap (Ok r)
-found_in_lem s cap h i r e l m k n = (rw k n, rw (← e) l, rw (← e) m)
+pub found_in_lem : (s : List ℕ) (cap h i g : ℕ) (r : Handle) → h ≡ head s HEIGHT → 1 ≤ h → h ≤ cap → r ≡ handle_with i g → i < cap → PeekedIn s cap (Ok r)
+found_in_lem s cap h i g r e l m k n = (rw k n, rw (← e) l, rw (← e) m)
 
 -- what a caller knows after the header test passed
 pub passes-room : (s : List ℕ) (r : Result ℕ Refusal) (cap : ℕ) → Says s r → r ≡ Ok cap → Room s cap

@@ -1,8 +1,8 @@
 // Slots: taking the one freed last, and freeing one. A free slot stands in a stack and knows its place there.
 // From the Rust: the free list of arena/base_arena.rs, with a generation for each slot.
 ghost use Rattle.std.specs.Prelude.{◌≡◌, ◌<◌};
-ghost use Rattle.arena.specs.Words.{Room};
-ghost use Rattle.arena.specs.inner.Slots.{PeekedIn, peek_slot, popped, take_slot, TakenIn, pushed, free_slot};
+ghost use Rattle.arena.specs.Words.{Room, field as field_of, GENERATION as GENERATION_OF};
+ghost use Rattle.arena.specs.inner.Slots.{handle_with, PeekedIn, peek_slot, popped, take_slot, TakenIn, pushed, free_slot};
 
 use crate::words::{GENERATION, HEIGHT, STACK, TOP};
 use crate::{laying, words};
@@ -13,6 +13,16 @@ use handle::{Generation, Handle, Refusal, Slot};
 pub enum Freed {
     Again,
     GenerationOverflow,
+}
+
+// The handle of the slot i, in its generation.
+pub fn handle_at(s: &[u64], cap: u64, i: u64) -> Handle
+    requires room { Room s.now cap }
+    requires i_lt_cap { i < cap }
+    ensures { result ≡ handle_with i (field_of s.now cap i GENERATION_OF) }
+{
+    let g = words::field(s, cap, i, GENERATION);
+    Handle::new(Slot(i), Generation(g))
 }
 
 // What `take` would answer, with nothing taken.
@@ -32,8 +42,7 @@ pub fn peek(s: &[u64], cap: u64) -> Result<Handle, Refusal>
     if cap <= i {
         return Err(Refusal::NotSound);
     }
-    let g = words::field(s, cap, i, GENERATION);
-    Ok(Handle::new(Slot(i), Generation(g)))
+    Ok(handle_at(s, cap, i))
 }
 
 // The stack loses its top, whose place is p.

@@ -3,6 +3,7 @@ use Prim.Native.Nat.{ℕ, ◌+◌, ◌<◌}
 use mathlib.Core.Path.{◌≡◌}
 use mathlib.Core.List.{List}
 use Rattle.handle.specs.declared.Handle.{Handle}
+use Rattle.arena.specs.inner.Slots.{handle_with}
 use Rattle.arena.specs.Words.{field, PREV, NEXT}
 use Rattle.chain.specs.inner.Links.{hooked, joined, neighbours, unlink_slot}
 use Rattle.chain.specs.inner.Steps.{followed, step_from}
@@ -13,8 +14,8 @@ use Rattle.handle.specs.declared.Refusal.{Refusal}
 pub stepped_at : (h h' : Handle) → h ≡ h' → ◌≡◌ {A = (Result (Option Handle) Refusal)} (Ok (Some h)) (Ok (Some h'))
 stepped_at h h' e = rw e
 
-pub stepped_in : (cap p : ℕ) (h : Handle) → h.slot ≡ record { 0 = p } → p < cap → h.slot.0 < cap
-stepped_in cap p h e l = rw e l
+pub stepped_in : (cap p g : ℕ) (h : Handle) → h ≡ handle_with p g → p < cap → h.slot.0 < cap
+stepped_in cap p g h e l = rw e l
 
 pub step-reads : (s : List ℕ) (cap i d q : ℕ) (r : Result (Option Handle) Refusal) → q ≡ field s cap i (PREV + d) → r ≡ followed s cap q → r ≡ step_from s cap i d
 unfolding step_from

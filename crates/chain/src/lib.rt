@@ -8,23 +8,15 @@ ghost use Rattle.arena.specs.Words.{Room};
 ghost use Rattle.chain.specs.inner.Links.{hooked, link_alone, link_beside, unlink_slot};
 ghost use Rattle.chain.specs.inner.Steps.{followed, step_from, end_of, SteppedIn};
 
-use arena::words;
-use arena::words::{FIRST, GENERATION, LAST, NEXT, PREV};
-use handle::{Generation, Handle, Slot};
+use arena::{slots, words};
+use arena::words::{FIRST, LAST, NEXT, PREV};
+use handle::{Handle, Refusal};
 
 // Where a slot stood in the chain.
 #[derive(Drop)]
 pub struct Neighbours {
     pub prev: u64,
     pub next: u64,
-}
-
-// What lies one step on.
-#[derive(Drop)]
-pub enum Stepped {
-    At(Handle),
-    End,
-    NotSound,
 }
 
 // What stands on side d of q learns of it: the slot p, or the header's end on that side where p is no slot.
@@ -80,24 +72,23 @@ pub fn unlink(s: &mut [u64], cap: u64, i: u64) -> Neighbours
     Neighbours { prev, next }
 }
 
-// What a link leads to: an entry's handle, the end of the chain, or nonsense.
-fn follow(s: &[u64], cap: u64, p: u64) -> Stepped
+// What a link leads to: an entry's handle, or none at the end of the chain.
+fn follow(s: &[u64], cap: u64, p: u64) -> Result<Option<Handle>, Refusal>
     requires { Room s.now cap }
     ensures value { result ≡ followed s.now cap p }
     ensures stepped_in { SteppedIn cap result }
 {
     if p == Handle::NO_SLOT {
-        return Stepped::End;
+        return Ok(None);
     }
     if cap <= p {
-        return Stepped::NotSound;
+        return Err(Refusal::NotSound);
     }
-    let g = words::field(s, cap, p, GENERATION);
-    Stepped::At(Handle::new(Slot(p), Generation(g)))
+    Ok(Some(slots::handle_at(s, cap, p)))
 }
 
 // One step from the slot i: back for d = 0, forward for d = 1.
-pub fn step(s: &[u64], cap: u64, i: u64, d: u64) -> Stepped
+pub fn step(s: &[u64], cap: u64, i: u64, d: u64) -> Result<Option<Handle>, Refusal>
     requires room { Room s.now cap }
     requires i_lt_cap { i < cap }
     requires d_bound { d ≤ 1 }
@@ -109,7 +100,7 @@ pub fn step(s: &[u64], cap: u64, i: u64, d: u64) -> Stepped
 }
 
 // The end of the chain on side d: the first entry for d = 0, the last for d = 1.
-pub fn end(s: &[u64], cap: u64, d: u64) -> Stepped
+pub fn end(s: &[u64], cap: u64, d: u64) -> Result<Option<Handle>, Refusal>
     requires room { Room s.now cap }
     requires d_bound { d ≤ 1 }
     ensures value { result ≡ end_of s.now cap d }

@@ -9,17 +9,16 @@ ghost use Rattle.find.specs.inner.Seeking.{side_of_key, seek_model, FoundIn};
 
 use arena::words;
 use arena::words::{BUDGET, KEY, LEFT, ROOT};
-use handle::Handle;
+use handle::{Handle, Refusal};
 
 // What a search comes to. The last number is the count of nodes looked at.
-#[derive(Drop)]
+#[derive(Clone, Copy)]
 pub enum Found {
     // the slot whose key is equal
     Equal(u64, u64),
     // the last slot looked at, and the side of it, 0 less or 1 greater, on which the key has its place
     Beside(u64, u64, u64),
     Empty,
-    NotSound,
 }
 
 // The side of a node's key on which k lies: 0 less, 1 not less. It stands alone so that the search has no branch on the side, which
@@ -35,35 +34,31 @@ fn side_of(k: u64, key: u64) -> u64
 }
 
 // Searches for the stored key k.
-pub fn seek(s: &[u64], cap: u64, k: u64) -> Found
+pub fn seek(s: &[u64], cap: u64, k: u64) -> Result<Found, Refusal>
     requires { Room s.now cap }
     ensures value { result ≡ seek_model s.now cap k }
     ensures found_in { FoundIn cap result }
 {
     let root = words::head(s, ROOT);
     if root == Handle::NO_SLOT {
-        return Found::Empty;
+        return Ok(Found::Empty);
     }
     let mut p = root;
-    let mut n: u64 = 0;
-    let found = loop {
-        if BUDGET <= n {
-            break Found::NotSound;
-        }
+    for n in 0..BUDGET {
         if cap <= p {
-            break Found::NotSound;
+            return Err(Refusal::NotSound);
         }
-        n += 1;
+        let looked = n + 1;
         let key = words::field(s, cap, p, KEY);
         if key == k {
-            break Found::Equal(p, n);
+            return Ok(Found::Equal(p, looked));
         }
         let d = side_of(k, key);
         let q = words::field(s, cap, p, LEFT + d);
         if q == Handle::NO_SLOT {
-            break Found::Beside(p, d, n);
+            return Ok(Found::Beside(p, d, looked));
         }
         p = q;
-    };
-    found
+    }
+    Err(Refusal::NotSound)
 }

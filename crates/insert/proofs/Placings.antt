@@ -17,7 +17,7 @@ use Rattle.insert.specs.declared.kinds.Prepared.{Prepared}
 use Rattle.insert.specs.declared.kinds.Prepared.TheVariants.{Alone, Beside, Replace}
 use Rattle.handle.specs.declared.Inserted.{Inserted}
 use Rattle.handle.specs.declared.Inserted.TheVariants.{New, Replacing}
-use Rattle.std.specs.Prelude.{Result, Ok, Err}
+use Rattle.std.specs.Prelude.{Result, Ok, Err, ⊤}
 use Rattle.handle.specs.declared.Refusal.{Refusal}
 
 pub taken-low : (cap : ℕ) (r : Result Handle Refusal) → TakenIn cap r → (h : Handle) → r ≡ Ok h → h.slot.0 < cap
@@ -47,7 +47,7 @@ module _ (s : List ℕ) (cap : ℕ) (key : ℤ) (value : ℕ) (t : List ℕ) (r 
     unfolding placed_beside
     beside_none e = simp (← is, e)
 
-    module _ (h : Handle) (e : r ≡ Ok h) (x : List ℕ) (b : Bool) (q : ◌≡◌ {A = List ℕ × Bool} (x, b) (hung_below t cap h.slot.0 p d key value)) where
+    module _ (h : Handle) (e : r ≡ Ok h) (x : List ℕ) (b : Bool) (q : ◌≡◌ {A = List ℕ × Result ⊤ Refusal} (x, b) (hung_below t cap h.slot.0 p d key value)) where
       pub beside-new : b ≡ true → ◌≡◌ {A = List ℕ × Result Inserted Refusal} (x, Ok (New h)) (placed_beside s cap p d key value)
       unfolding placed_beside
       beside-new f = simp (← is, e, ← q, f)

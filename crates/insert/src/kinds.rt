@@ -8,10 +8,10 @@ ghost use Rattle.insert.specs.inner.Kinds.{PreparedIn, prepared_normal, prepared
 use arena::words::{KEY, LEFT, PREV, ROOT};
 use arena::{entries, words};
 use find::Found;
-use handle::{Handle, Side};
+use handle::{Handle, Refusal, Side};
 
 // What an insertion is going to do.
-#[derive(Drop)]
+#[derive(Clone, Copy)]
 pub enum Prepared {
     // the first entry of an empty queue
     Alone,
@@ -19,43 +19,31 @@ pub enum Prepared {
     Beside(u64, u64),
     // another value in this slot
     Replace(u64),
-    Fail,
-    NotSound,
 }
 
 // Normal: the search's answer for the stored key k.
-pub fn prepare_normal(s: &[u64], cap: u64, k: u64) -> Prepared
+pub fn prepare_normal(s: &[u64], cap: u64, k: u64) -> Result<Prepared, Refusal>
     requires { Room s.now cap }
     ensures value { result ≡ prepared_normal s.now cap k }
     ensures prepared_in { PreparedIn cap result }
 {
-    let found = find::seek(s, cap, k);
-    match found {
-        Found::Equal(p, _) => {
-            return Prepared::Replace(p);
-        }
-        Found::Beside(p, d, _) => {
-            return Prepared::Beside(p, d);
-        }
-        Found::Empty => {
-            return Prepared::Alone;
-        }
-        Found::NotSound => {
-            return Prepared::NotSound;
-        }
+    match find::seek(s, cap, k)? {
+        Found::Equal(p, _) => Ok(Prepared::Replace(p)),
+        Found::Beside(p, d, _) => Ok(Prepared::Beside(p, d)),
+        Found::Empty => Ok(Prepared::Alone),
     }
 }
 
 // "Empty: only into an empty queue."
-pub fn prepare_empty(s: &[u64], cap: u64) -> Prepared
+pub fn prepare_empty(s: &[u64], cap: u64) -> Result<Prepared, Refusal>
     requires { Room s.now cap }
     ensures value { result ≡ prepared_empty s.now }
     ensures prepared_in { PreparedIn cap result }
 {
     if words::head(s, ROOT) == Handle::NO_SLOT {
-        return Prepared::Alone;
+        return Ok(Prepared::Alone);
     }
-    Prepared::Fail
+    Err(Refusal::FailedOrdRequirement)
 }
 
 // Whether a lies strictly on the side d of b.
@@ -69,21 +57,21 @@ fn lies(d: u64, a: u64, b: u64) -> bool
 }
 
 // Manual, Equal: the key must be the target's.
-fn prepare_equal(s: &[u64], cap: u64, i: u64, k: u64) -> Prepared
+fn prepare_equal(s: &[u64], cap: u64, i: u64, k: u64) -> Result<Prepared, Refusal>
     requires room { Room s.now cap }
     requires i_lt_cap { i < cap }
     ensures value { result ≡ prepared_equal s.now cap i k }
     ensures prepared_in { PreparedIn cap result }
 {
     if words::field(s, cap, i, KEY) == k {
-        return Prepared::Replace(i);
+        return Ok(Prepared::Replace(i));
     }
-    Prepared::Fail
+    Err(Refusal::FailedOrdRequirement)
 }
 
 // "Less: if the target has a left child, the new entry becomes the right child of its prev, else the target's left child. Greater
 // mirrors this." The target's neighbour on the side d is q.
-fn place_beside(s: &[u64], cap: u64, i: u64, d: u64, q: u64) -> Prepared
+fn place_beside(s: &[u64], cap: u64, i: u64, d: u64, q: u64) -> Result<Prepared, Refusal>
     requires room { Room s.now cap }
     requires i_lt_cap { i < cap }
     requires d_bound { d ≤ 1 }
@@ -91,16 +79,16 @@ fn place_beside(s: &[u64], cap: u64, i: u64, d: u64, q: u64) -> Prepared
     ensures prepared_in { PreparedIn cap result }
 {
     if words::field(s, cap, i, LEFT + d) == Handle::NO_SLOT {
-        return Prepared::Beside(i, d);
+        return Ok(Prepared::Beside(i, d));
     }
     if cap <= q {
-        return Prepared::NotSound;
+        return Err(Refusal::NotSound);
     }
-    Prepared::Beside(q, 1 - d)
+    Ok(Prepared::Beside(q, 1 - d))
 }
 
 // Manual, Less or Greater: "the key must lie strictly between the target's and its chain neighbour's on that side (if there is one)".
-fn prepare_beside(s: &[u64], cap: u64, i: u64, d: u64, k: u64) -> Prepared
+fn prepare_beside(s: &[u64], cap: u64, i: u64, d: u64, k: u64) -> Result<Prepared, Refusal>
     requires room { Room s.now cap }
     requires i_lt_cap { i < cap }
     requires d_bound { d ≤ 1 }
@@ -109,41 +97,35 @@ fn prepare_beside(s: &[u64], cap: u64, i: u64, d: u64, k: u64) -> Prepared
 {
     let key = words::field(s, cap, i, KEY);
     if !lies(d, k, key) {
-        return Prepared::Fail;
+        return Err(Refusal::FailedOrdRequirement);
     }
     let q = words::field(s, cap, i, PREV + d);
     if q == Handle::NO_SLOT {
         return place_beside(s, cap, i, d, q);
     }
     if cap <= q {
-        return Prepared::NotSound;
+        return Err(Refusal::NotSound);
     }
     let far = words::field(s, cap, q, KEY);
     if !lies(1 - d, k, far) {
-        return Prepared::Fail;
+        return Err(Refusal::FailedOrdRequirement);
     }
     place_beside(s, cap, i, d, q)
 }
 
 // Manual: a live handle and a side of it.
-pub fn prepare_manual(s: &[u64], cap: u64, h: Handle, side: Side, k: u64) -> Prepared
+pub fn prepare_manual(s: &[u64], cap: u64, h: Handle, side: Side, k: u64) -> Result<Prepared, Refusal>
     requires { Room s.now cap }
     ensures value { result ≡ prepared_manual s.now cap h side k }
     ensures prepared_in { PreparedIn cap result }
 {
     if !entries::live(s, cap, h) {
-        return Prepared::Fail;
+        return Err(Refusal::FailedOrdRequirement);
     }
     let i = h.slot.0;
     match side {
-        Side::Less => {
-            return prepare_beside(s, cap, i, 0, k);
-        }
-        Side::Equal => {
-            return prepare_equal(s, cap, i, k);
-        }
-        Side::Greater => {
-            return prepare_beside(s, cap, i, 1, k);
-        }
+        Side::Less => prepare_beside(s, cap, i, 0, k),
+        Side::Equal => prepare_equal(s, cap, i, k),
+        Side::Greater => prepare_beside(s, cap, i, 1, k),
     }
 }

@@ -1,14 +1,13 @@
 // Placing: a prepared insertion is carried out, and the three kinds of insertion from end to end.
 // A caller relies on the equality with specs/inner/Place.antt. "An insertion that replaces never meets 1": a slot is asked for only
 // where a new entry is needed. From the Rust: SimpleOrdArenaInsertEntry::insert and insert_inx_manual_unwrap (ord/insert.rs).
-ghost use Rattle.std.specs.Prelude.{◌≡◌, ◌<◌, ◌≤◌};
+ghost use Rattle.std.specs.Prelude.{Ok, ◌≡◌, ◌<◌, ◌≤◌};
 ghost use Rattle.arena.specs.Words.{Room};
 ghost use Rattle.insert.specs.inner.Kinds.{PreparedIn};
 ghost use Rattle.insert.specs.inner.Place.{stand_alone, placed_alone, hung_below, placed_beside, value_replaced, applied, normal_inserted, empty_inserted, manual_inserted};
 
 use crate::kinds::Prepared;
-use crate::{ahead, kinds};
-use arena::slots::Taken;
+use crate::kinds;
 use arena::words::{ROOT, VALUE};
 use arena::{entries, keys, slots, words};
 use handle::{Handle, Inserted, Key, Refusal, Side};
@@ -33,28 +32,18 @@ fn stand_alone(s: &mut [u64], cap: u64, i: u64, key: Key, value: u64)
     words::put_head(s, ROOT, i);
 }
 
-fn place_alone(s: &mut [u64], cap: u64, key: Key, value: u64) -> Inserted
+fn place_alone(s: &mut [u64], cap: u64, key: Key, value: u64) -> Result<Inserted, Refusal>
     requires { Room s.old cap }
     ensures { (s.new, result) ≡ placed_alone s.old cap key.0 value }
 {
-    let taken = slots::take(s, cap);
-    match taken {
-        Taken::At(h) => {
-            let i = h.slot.0;
-            stand_alone(s, cap, i, key, value);
-            return Inserted::New(h);
-        }
-        Taken::Full => {
-            return Inserted::Refused(Refusal::NotWithinCapacity);
-        }
-        Taken::NotSound => {
-            return Inserted::Refused(Refusal::NotSound);
-        }
-    }
+    let h = slots::take(s, cap)?;
+    let i = h.slot.0;
+    stand_alone(s, cap, i, key, value);
+    Ok(Inserted::New(h))
 }
 
 // The slot i becomes the child of p on the side d: an entry of rank 1, beside p in the chain. Then the ranks are put right.
-fn hang_below(s: &mut [u64], cap: u64, i: u64, p: u64, d: u64, key: Key, value: u64) -> bool
+fn hang_below(s: &mut [u64], cap: u64, i: u64, p: u64, d: u64, key: Key, value: u64) -> Result<(), Refusal>
     requires room { Room s.old cap }
     requires i_lt_cap { i < cap }
     requires p_lt_cap { p < cap }
@@ -74,81 +63,57 @@ fn hang_below(s: &mut [u64], cap: u64, i: u64, p: u64, d: u64, key: Key, value: 
     ranks::rebalance(s, cap, i, p)
 }
 
-fn place_beside(s: &mut [u64], cap: u64, p: u64, d: u64, key: Key, value: u64) -> Inserted
+fn place_beside(s: &mut [u64], cap: u64, p: u64, d: u64, key: Key, value: u64) -> Result<Inserted, Refusal>
     requires room { Room s.old cap }
     requires p_lt_cap { p < cap }
     requires d_bound { d ≤ 1 }
     ensures { (s.new, result) ≡ placed_beside s.old cap p d key.0 value }
 {
-    let taken = slots::take(s, cap);
-    match taken {
-        Taken::At(h) => {
-            let i = h.slot.0;
-            if hang_below(s, cap, i, p, d, key, value) {
-                return Inserted::New(h);
-            }
-            return Inserted::Refused(Refusal::NotSound);
-        }
-        Taken::Full => {
-            return Inserted::Refused(Refusal::NotWithinCapacity);
-        }
-        Taken::NotSound => {
-            return Inserted::Refused(Refusal::NotSound);
-        }
-    }
+    let h = slots::take(s, cap)?;
+    let i = h.slot.0;
+    hang_below(s, cap, i, p, d, key, value)?;
+    Ok(Inserted::New(h))
 }
 
-// "Equal: the value is value_replaced, the old one returned, the handle kept, no slot used."
-fn replace(s: &mut [u64], cap: u64, i: u64, value: u64) -> Inserted
+// "Equal: the value is replaced, the old one returned, the handle kept, no slot used."
+fn replace(s: &mut [u64], cap: u64, i: u64, value: u64) -> Result<Inserted, Refusal>
     requires room { Room s.old cap }
     requires i_lt_cap { i < cap }
     ensures { (s.new, result) ≡ value_replaced s.old cap i value }
 {
-    let h = ahead::name(s, cap, i);
+    let h = slots::handle_at(s, cap, i);
     let old = words::field(s, cap, i, VALUE);
     words::put(s, cap, i, VALUE, value);
-    Inserted::Replacing(h, old)
+    Ok(Inserted::Replacing(h, old))
 }
 
 // Carries out what was prepared.
-pub fn apply(s: &mut [u64], cap: u64, p: Prepared, key: Key, value: u64) -> Inserted
+pub fn apply(s: &mut [u64], cap: u64, p: Prepared, key: Key, value: u64) -> Result<Inserted, Refusal>
     requires room { Room s.old cap }
-    requires prepared_in { PreparedIn cap p }
-    ensures { (s.new, result) ≡ applied s.old cap p key.0 value }
+    requires prepared_in { PreparedIn cap (Ok p) }
+    ensures { (s.new, result) ≡ applied s.old cap (Ok p) key.0 value }
 {
     match p {
-        Prepared::Alone => {
-            return place_alone(s, cap, key, value);
-        }
-        Prepared::Beside(q, d) => {
-            return place_beside(s, cap, q, d, key, value);
-        }
-        Prepared::Replace(i) => {
-            return replace(s, cap, i, value);
-        }
-        Prepared::Fail => {
-            return Inserted::Refused(Refusal::FailedOrdRequirement);
-        }
-        Prepared::NotSound => {
-            return Inserted::Refused(Refusal::NotSound);
-        }
+        Prepared::Alone => place_alone(s, cap, key, value),
+        Prepared::Beside(q, d) => place_beside(s, cap, q, d, key, value),
+        Prepared::Replace(i) => replace(s, cap, i, value),
     }
 }
 
-pub fn insert_normal(s: &mut [u64], cap: u64, key: Key, value: u64) -> Inserted
+pub fn insert_normal(s: &mut [u64], cap: u64, key: Key, value: u64) -> Result<Inserted, Refusal>
     requires { Room s.old cap }
     ensures { (s.new, result) ≡ normal_inserted s.old cap key.0 value }
 {
     let k = keys::stored_key(key);
-    let p = kinds::prepare_normal(s, cap, k);
+    let p = kinds::prepare_normal(s, cap, k)?;
     apply(s, cap, p, key, value)
 }
 
-pub fn insert_empty(s: &mut [u64], cap: u64, key: Key, value: u64) -> Inserted
+pub fn insert_empty(s: &mut [u64], cap: u64, key: Key, value: u64) -> Result<Inserted, Refusal>
     requires { Room s.old cap }
     ensures { (s.new, result) ≡ empty_inserted s.old cap key.0 value }
 {
-    let p = kinds::prepare_empty(s, cap);
+    let p = kinds::prepare_empty(s, cap)?;
     apply(s, cap, p, key, value)
 }
 
@@ -159,11 +124,11 @@ pub fn insert_manual(
     side: Side,
     key: Key,
     value: u64,
-) -> Inserted
+) -> Result<Inserted, Refusal>
     requires { Room s.old cap }
     ensures { (s.new, result) ≡ manual_inserted s.old cap h side key.0 value }
 {
     let k = keys::stored_key(key);
-    let p = kinds::prepare_manual(s, cap, h, side, k);
+    let p = kinds::prepare_manual(s, cap, h, side, k)?;
     apply(s, cap, p, key, value)
 }

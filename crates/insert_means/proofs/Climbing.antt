@@ -30,11 +30,12 @@ use Rattle.queue_of_store.proofs.AnyDepth.{Regrown, Came, came, came_on}
 use Rattle.insert_means.proofs.Restructured.{Stands, stands_on, ranked-at, restructured}
 use Rattle.insert_means.proofs.RaiseTurns.{side-at, turn-stops, turn-raises, turn-turns}
 use Rattle.tree.specs.declared.Climbed.TheVariants.{Done, Up}
-use Rattle.std.specs.Prelude.{Ok}
+use Rattle.std.specs.Prelude.{Ok, Result, ⊤}
+use Rattle.handle.specs.declared.Refusal.{Refusal}
 
 -- a climb ends, or goes on
 module _ (fuel : ℕ) (s : List ℕ) (cap p0 p1 p2 d01 d12 : ℕ) (t : List ℕ) where
-  climb_ends : (t, Ok Done) ≡ fix_turn s cap p0 p1 p2 d01 d12 → raise_from (suc fuel) s cap p0 p1 p2 d01 d12 ≡ (t, true)
+  climb_ends : (t, Ok Done) ≡ fix_turn s cap p0 p1 p2 d01 d12 → raise_from (suc fuel) s cap p0 p1 p2 d01 d12 ≡ (t, Ok tt)
   unfolding raise_from
   climb_ends e = rw (← e)
 
@@ -54,7 +55,7 @@ module _ (cap : ℕ) (l : List ℕ) (few : cap ≤ no_slot) (fuel : ℕ) (s : Li
   abbrev goal : Tree
   goal = insert_climb n0 d e1 r1 s0 (step e e2 r2 s1 ∷ p)
 
-  abbrev run : List ℕ × Bool
+  abbrev run : List ℕ × Result ⊤ Refusal
   run = raise_from (suc fuel) s cap (top_slot n0) e1.slot e2.slot (number d) (number e)
 
   abbrev n1 : Tree

@@ -11,6 +11,7 @@ use crate::turns;
 use crate::turns::Turn;
 use arena::words;
 use arena::words::{BACK, BUDGET, LEFT, RANK, RIGHT};
+use handle::Refusal;
 use tree::Climbed;
 
 // Where a turn is taken: n1, its child n0 that lost a rank, its other child s0, and the ranks of n0 and n1.
@@ -24,7 +25,7 @@ pub struct Site {
 }
 
 // One up from p1, which lost a rank.
-fn go_up(s: &[u64], cap: u64, p1: u64) -> Climbed
+fn go_up(s: &[u64], cap: u64, p1: u64) -> Result<Climbed, Refusal>
     requires room { Room s.now cap }
     requires p1_lt_cap { p1 < cap }
     ensures value { result ≡ go_up s.now cap p1 }
@@ -33,13 +34,13 @@ fn go_up(s: &[u64], cap: u64, p1: u64) -> Climbed
     let p2 = words::field(s, cap, p1, BACK);
     if p2 < cap {
         let d = tree::side_of(s, cap, p2, p1);
-        return Climbed::Up(p2, d);
+        return Ok(Climbed::Up(p2, d));
     }
-    Climbed::Done
+    Ok(Climbed::Done)
 }
 
 // n1 gets a lower rank, and the climb goes one up.
-pub fn lower_one(s: &mut [u64], cap: u64, p1: u64, rank: u64) -> Climbed
+pub fn lower_one(s: &mut [u64], cap: u64, p1: u64, rank: u64) -> Result<Climbed, Refusal>
     requires room { Room s.old cap }
     requires p1_lt_cap { p1 < cap }
     ensures result_after { (s.new, result) ≡ lower_one s.old cap p1 rank }
@@ -50,7 +51,7 @@ pub fn lower_one(s: &mut [u64], cap: u64, p1: u64, rank: u64) -> Climbed
 }
 
 // "both two below s0, lower n1 and s0 and climb"
-fn lower_both(s: &mut [u64], cap: u64, p1: u64, s0: u64, rank0: u64) -> Climbed
+fn lower_both(s: &mut [u64], cap: u64, p1: u64, s0: u64, rank0: u64) -> Result<Climbed, Refusal>
     requires room { Room s.old cap }
     requires p1_lt_cap { p1 < cap }
     requires s0_lt_cap { s0 < cap }
@@ -63,7 +64,7 @@ fn lower_both(s: &mut [u64], cap: u64, p1: u64, s0: u64, rank0: u64) -> Climbed
 }
 
 // A rotation, or n1 and s0 are lowered: by the ranks of a and b under s0, whose rank rs is one below n1's.
-fn climb_by(s: &mut [u64], cap: u64, d: u64, t: Turn, rank0: u64, rs: u64, rb: u64) -> Climbed
+fn climb_by(s: &mut [u64], cap: u64, d: u64, t: Turn, rank0: u64, rs: u64, rb: u64) -> Result<Climbed, Refusal>
     requires room { Room s.old cap }
     requires d_bound { d ≤ 1 }
     requires n1_lt_cap { t.n1 < cap }
@@ -73,27 +74,27 @@ fn climb_by(s: &mut [u64], cap: u64, d: u64, t: Turn, rank0: u64, rs: u64, rb: u
     ensures standing { Standing cap result }
 {
     if BUDGET <= t.ra {
-        return Climbed::NotSound;
+        return Err(Refusal::NotSound);
     }
     if BUDGET <= rb {
-        return Climbed::NotSound;
+        return Err(Refusal::NotSound);
     }
     if rb + 1 == rs {
         turns::turn_once(s, cap, d, t);
-        return Climbed::Done;
+        return Ok(Climbed::Done);
     }
     if t.ra + 2 == rs {
         return lower_both(s, cap, t.n1, t.s0, rank0);
     }
     if cap <= t.a {
-        return Climbed::NotSound;
+        return Err(Refusal::NotSound);
     }
     turns::turn_twice(s, cap, d, t);
-    Climbed::Done
+    Ok(Climbed::Done)
 }
 
 // The turn where the sibling s0 has the rank rs, one below n1: its children a and b are read, with n2 above n1.
-fn climb_past(s: &mut [u64], cap: u64, d: u64, p: Site, rs: u64) -> Climbed
+fn climb_past(s: &mut [u64], cap: u64, d: u64, p: Site, rs: u64) -> Result<Climbed, Refusal>
     requires room { Room s.old cap }
     requires d_bound { d ≤ 1 }
     requires n1_lt_cap { p.n1 < cap }
@@ -121,7 +122,7 @@ fn climb_past(s: &mut [u64], cap: u64, d: u64, p: Site, rs: u64) -> Climbed
 }
 
 // The turn where n1 is three above n0: by the rank of its sibling s0.
-fn climb_at(s: &mut [u64], cap: u64, d: u64, p: Site) -> Climbed
+fn climb_at(s: &mut [u64], cap: u64, d: u64, p: Site) -> Result<Climbed, Refusal>
     requires room { Room s.old cap }
     requires d_bound { d ≤ 1 }
     requires n1_lt_cap { p.n1 < cap }
@@ -132,7 +133,7 @@ fn climb_at(s: &mut [u64], cap: u64, d: u64, p: Site) -> Climbed
 {
     let rs = words::field(s, cap, p.s0, RANK);
     if BUDGET <= rs {
-        return Climbed::NotSound;
+        return Err(Refusal::NotSound);
     }
     if rs + 2 == p.rank1 {
         return lower_one(s, cap, p.n1, rs + 1);
@@ -141,7 +142,7 @@ fn climb_at(s: &mut [u64], cap: u64, d: u64, p: Site) -> Climbed
 }
 
 // One turn at n1, whose child n0 on the side d lost a rank.
-fn climb_turn(s: &mut [u64], cap: u64, p1: u64, d: u64) -> Climbed
+fn climb_turn(s: &mut [u64], cap: u64, p1: u64, d: u64) -> Result<Climbed, Refusal>
     requires room { Room s.old cap }
     requires p1_lt_cap { p1 < cap }
     requires d_bound { d ≤ 1 }
@@ -153,13 +154,13 @@ fn climb_turn(s: &mut [u64], cap: u64, p1: u64, d: u64) -> Climbed
     let rank1 = words::field(s, cap, p1, RANK);
     let rank0 = tree::rank_of(s, cap, p0);
     if BUDGET <= rank0 {
-        return Climbed::NotSound;
+        return Err(Refusal::NotSound);
     }
     if rank1 <= rank0 + 2 {
-        return Climbed::Done;
+        return Ok(Climbed::Done);
     }
     if cap <= s0 {
-        return Climbed::NotSound;
+        return Err(Refusal::NotSound);
     }
     let p = Site {
         n0: p0,
@@ -171,8 +172,8 @@ fn climb_turn(s: &mut [u64], cap: u64, p1: u64, d: u64) -> Climbed
     climb_at(s, cap, d, p)
 }
 
-// The climb from a node whose child on that side lost a rank. Whether it ended, as it does on every sound store.
-pub fn climb(s: &mut [u64], cap: u64, start: u64, side: u64) -> bool
+// The climb from a node whose child on that side lost a rank. It ends on every sound store; else it is refused.
+pub fn climb(s: &mut [u64], cap: u64, start: u64, side: u64) -> Result<(), Refusal>
     requires room { Room s.old cap }
     requires start_lt_cap { start < cap }
     requires side_bound { side ≤ 1 }
@@ -180,25 +181,14 @@ pub fn climb(s: &mut [u64], cap: u64, start: u64, side: u64) -> bool
 {
     let mut p1 = start;
     let mut d = side;
-    let mut n: u64 = 0;
-    let ended = 'climb: loop {
-        if BUDGET <= n {
-            break 'climb false;
-        }
-        let a = climb_turn(s, cap, p1, d);
-        n += 1;
-        match a {
+    for _ in 0..BUDGET {
+        match climb_turn(s, cap, p1, d)? {
             Climbed::Up(p2, d2) => {
                 p1 = p2;
                 d = d2;
             }
-            Climbed::Done => {
-                break 'climb true;
-            }
-            Climbed::NotSound => {
-                break 'climb false;
-            }
+            Climbed::Done => return Ok(()),
         }
-    };
-    ended
+    }
+    Err(Refusal::NotSound)
 }

@@ -27,6 +27,8 @@ use Rattle.queue_of_store.proofs.Trees.{number_small, LinkOf, SameLinks, slot-lo
 use Rattle.queue_of_store.proofs.Ways.{unplugged, HasWay, has_plug, has_way, way_apart}
 use Rattle.queue_of_store.proofs.Groups.{same-links}
 use Rattle.queue_of_store.proofs.WayWrites.{way_stays, hook_stays, one-sided, relinked-is, raised, regrown}
+use Rattle.std.specs.Prelude.{Result, Ok, ⊤}
+use Rattle.handle.specs.declared.Refusal.{Refusal}
 
 -- t holds the tree, and differs from s in links of the slots l and in ROOT alone
 pub record Regrown (s t : List ℕ) (cap : ℕ) (l : List ℕ) (x : Tree) : Type 0 where
@@ -34,16 +36,16 @@ pub record Regrown (s t : List ℕ) (cap : ℕ) (l : List ℕ) (x : Tree) : Type
   pub only : Only s t cap (LinkOf l) IsRoot
 
 -- what a climb came to: its answer is yes, and its store is s regrown
-pub record Came (s : List ℕ) (cap : ℕ) (l : List ℕ) (x : Tree) (r : List ℕ × Bool) : Type 0 where
-  pub yes : r.1 ≡ true
+pub record Came (s : List ℕ) (cap : ℕ) (l : List ℕ) (x : Tree) (r : List ℕ × Result ⊤ Refusal) : Type 0 where
+  pub yes : r.1 ≡ Ok tt
   pub words : TreeWords r.0 cap x
   pub only : Only s r.0 cap (LinkOf l) IsRoot
 
 -- at once, and after a first step
-pub came : {s t : List ℕ} {cap : ℕ} {l : List ℕ} {x : Tree} → Regrown s t cap l x → Came s cap l x (t, true)
+pub came : {s t : List ℕ} {cap : ℕ} {l : List ℕ} {x : Tree} → Regrown s t cap l x → Came s cap l x (t, Ok tt)
 came a = record { yes = refl; words = a.words; only = a.only }
 
-pub came_on : {s t : List ℕ} {cap : ℕ} {l : List ℕ} {x y : Tree} {r : List ℕ × Bool} → Regrown s t cap l x → Came t cap l y r → Came s cap l y r
+pub came_on : {s t : List ℕ} {cap : ℕ} {l : List ℕ} {x y : Tree} {r : List ℕ × Result ⊤ Refusal} → Regrown s t cap l x → Came t cap l y r → Came s cap l y r
 came_on {s} {t} {cap} {l} a b = record { yes = b.yes; words = b.words; only = only_trans a.only b.only }
 
 -- a parent is no slot of what hangs below it

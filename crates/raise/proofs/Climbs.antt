@@ -8,12 +8,12 @@ use Rattle.arena.proofs.Budget.{left, none_left}
 use Rattle.raise.specs.inner.Ranks.{fix_turn, raise_from}
 use Rattle.tree.specs.declared.Climbed.{Climbed}
 use Rattle.tree.specs.declared.Climbed.TheVariants.{Done, Up}
-use Rattle.std.specs.Prelude.{Result, Ok, Err}
+use Rattle.std.specs.Prelude.{Result, Ok, Err, ⊤}
 use Rattle.handle.specs.declared.Refusal.TheVariants.{NotSound}
 use Rattle.handle.specs.declared.Refusal.{Refusal}
 
-module _ (s : List ℕ) (cap p0 p1 p2 d01 d12 n : ℕ) (r : List ℕ × Bool) (inv : raise_from (budget - n) s cap p0 p1 p2 d01 d12 ≡ r) where
-  pub spent : budget ≤ n → (s, false) ≡ r
+module _ (s : List ℕ) (cap p0 p1 p2 d01 d12 n : ℕ) (r : List ℕ × Result ⊤ Refusal) (inv : raise_from (budget - n) s cap p0 p1 p2 d01 d12 ≡ r) where
+  pub spent : budget ≤ n → (s, Err NotSound) ≡ r
   unfolding raise_from
   spent h = rw (none_left n h) at inv
 
@@ -22,10 +22,10 @@ module _ (s : List ℕ) (cap p0 p1 p2 d01 d12 n : ℕ) (r : List ℕ × Bool) (i
     unfolding raise_from
     again p3 d e = simp (left n h, ← at, e) at inv
 
-    pub ended : a ≡ (Ok Done) → (x, true) ≡ r
+    pub ended : a ≡ Ok Done → (x, Ok tt) ≡ r
     unfolding raise_from
     ended e = simp (left n h, ← at, e) at inv
 
-    pub refused : a ≡ (Err NotSound) → (x, false) ≡ r
+    pub refused : (m : Refusal) → a ≡ Err m → (x, Err m) ≡ r
     unfolding raise_from
-    refused e = simp (left n h, ← at, e) at inv
+    refused m e = simp (left n h, ← at, e) at inv

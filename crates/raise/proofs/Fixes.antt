@@ -12,7 +12,7 @@ use Rattle.raise.specs.declared.turns.Turn.{Turn}
 use Rattle.raise.specs.inner.Ranks.{above, raised_up, fix_with, fix_turn, raise_from, climbed_to, climbed_above, rebalanced}
 use Rattle.tree.specs.declared.Climbed.{Climbed}
 use Rattle.tree.specs.declared.Climbed.TheVariants.{Done, Up}
-use Rattle.std.specs.Prelude.{Result, Ok}
+use Rattle.std.specs.Prelude.{Result, Ok, ⊤}
 use Rattle.handle.specs.declared.Refusal.{Refusal}
 
 module _ (s : List ℕ) (cap p2 p3 r1 : ℕ) (x : List ℕ) (e : x ≡ put s cap p2 RANK (r1 + 1)) where
@@ -45,20 +45,20 @@ module _ (s : List ℕ) (cap d01 d12 : ℕ) (t : Turn) (r1 r2 rs1 : ℕ) where
     fix_across d e = rw (le-ltb r1 r2 over, lt-leb budget r1 low, lt-leb budget rs1 low₁, ne_eqb (rs1 + 1) r2 gap, ne_eqb d01 d12 d, e)
 
 module _ (s : List ℕ) (cap p0 p1 p2 : ℕ) (e : p2 ≡ field s cap p1 BACK) where
-  pub top_reached : cap ≤ p2 → ◌≡◌ {A = List ℕ × Bool} (s, true) (climbed_above s cap p0 p1)
+  pub top_reached : cap ≤ p2 → ◌≡◌ {A = List ℕ × Result ⊤ Refusal} (s, Ok tt) (climbed_above s cap p0 p1)
   unfolding climbed_above climbed_to
   top_reached h = rw (← e, le-leb cap p2 h)
 
-  pub climbs : p2 < cap → (d01 d12 : ℕ) → d01 ≡ side_of_child s cap p1 p0 → d12 ≡ side_of_child s cap p2 p1 → (x : List ℕ × Bool) → x ≡ raise_from budget s cap p0 p1 p2 d01 d12
+  pub climbs : p2 < cap → (d01 d12 : ℕ) → d01 ≡ side_of_child s cap p1 p0 → d12 ≡ side_of_child s cap p2 p1 → (x : List ℕ × Result ⊤ Refusal) → x ≡ raise_from budget s cap p0 p1 p2 d01 d12
       → x ≡ climbed_above s cap p0 p1
   unfolding climbed_above climbed_to
   climbs h d01 d12 f g x q = rw (← e, lt-leb cap p2 h, ← f, ← g) q
 
 module _ (s : List ℕ) (cap p0 p1 r : ℕ) (e : r ≡ field s cap p1 RANK) where
-  pub rank-fits : r ≡ 2 → ◌≡◌ {A = List ℕ × Bool} (s, true) (rebalanced s cap p0 p1)
+  pub rank-fits : r ≡ 2 → ◌≡◌ {A = List ℕ × Result ⊤ Refusal} (s, Ok tt) (rebalanced s cap p0 p1)
   unfolding rebalanced
   rank-fits h = rw (← e, eq-eqb r 2 h)
 
-  pub rank-raised : (r ≡ 2 → ⊥) → (t : List ℕ) → t ≡ put s cap p1 RANK 2 → (x : List ℕ × Bool) → x ≡ climbed_above t cap p0 p1 → x ≡ rebalanced s cap p0 p1
+  pub rank-raised : (r ≡ 2 → ⊥) → (t : List ℕ) → t ≡ put s cap p1 RANK 2 → (x : List ℕ × Result ⊤ Refusal) → x ≡ climbed_above t cap p0 p1 → x ≡ rebalanced s cap p0 p1
   unfolding rebalanced
   rank-raised h t f x q = rw (← e, ne_eqb r 2 h, ← f) q

@@ -71,7 +71,7 @@ module _ (s : List ℕ) (cap p0 p1 : ℕ) (h0 : p0 < cap) (h1 : p1 < cap) where
   to-only p2 =
       let d01 = side_of_child s cap p1 p0 in
       let d12 = side_of_child s cap p2 p1 in
-      either (Settled s cap) (leb cap p2) (s, true) (raise_from budget s cap p0 p1 p2 d01 d12) (λ e. only_none)
+      either (Settled s cap) (leb cap p2) (s, Ok tt) (raise_from budget s cap p0 p1 p2 d01 d12) (λ e. only_none)
       (λ e. climb_only budget s cap p0 p1 p2 d01 d12 h0 h1 (leb-false cap p2 e) (side-small s cap p1 p0) (side-small s cap p2 p1))
 
   above-only : Settled s cap (climbed_above s cap p0 p1)
@@ -82,5 +82,5 @@ pub rebalanced-only : (s : List ℕ) (cap p0 p1 : ℕ) → p0 < cap → p1 < cap
 unfolding rebalanced
 rebalanced-only s cap p0 p1 h0 h1 =
     let t = put s cap p1 RANK 2 in
-    either (Settled s cap) (eqb (field s cap p1 RANK) 2) (s, true) (climbed_above t cap p0 p1) (λ e. only_none)
+    either (Settled s cap) (eqb (field s cap p1 RANK) 2) (s, Ok tt) (climbed_above t cap p0 p1) (λ e. only_none)
     (λ e. only_trans (only-put s p1 RANK 2 h1 (omega arith) (omega arith)) (above-only t cap p0 p1 h0 h1))

@@ -1,5 +1,5 @@
 // The ranks after a new entry n0 under n1: from there up, until the ranks are in order again or one restructure has put them so.
-// A caller relies on the equality with specs/inner/Ranks.antt. False says that the words hold no sound queue.
+// A caller relies on the equality with specs/inner/Ranks.antt. A refusal says that the words hold no sound queue.
 // From the Rust: rebalance_inserted of ord/insert.rs. The climb has a budget, so that it ends on any words.
 ghost use Rattle.std.specs.Prelude.{◌≡◌, ◌<◌, ◌≤◌};
 ghost use Rattle.arena.specs.Words.{Room};
@@ -11,10 +11,11 @@ use crate::turns;
 use crate::turns::Turn;
 use arena::words;
 use arena::words::{BACK, BUDGET, RANK, RIGHT};
+use handle::Refusal;
 use tree::Climbed;
 
 // "raise n2 by one and climb": n2's rank becomes one more than n1's rank r1, and p3 above it is next.
-fn raise(s: &mut [u64], cap: u64, p2: u64, p3: u64, r1: u64) -> Climbed
+fn raise(s: &mut [u64], cap: u64, p2: u64, p3: u64, r1: u64) -> Result<Climbed, Refusal>
     requires room { Room s.old cap }
     requires p2_lt_cap { p2 < cap }
     requires r1_lt_budget { r1 < budget }
@@ -24,13 +25,13 @@ fn raise(s: &mut [u64], cap: u64, p2: u64, p3: u64, r1: u64) -> Climbed
     words::put(s, cap, p2, RANK, r1 + 1);
     if p3 < cap {
         let d = tree::side_of(s, cap, p3, p2);
-        return Climbed::Up(p3, d);
+        return Ok(Climbed::Up(p3, d));
     }
-    Climbed::Done
+    Ok(Climbed::Done)
 }
 
 // One turn: n0 under n1 on the side d01, n1 under n2 on the side d12.
-fn fix_turn(s: &mut [u64], cap: u64, p0: u64, p1: u64, p2: u64, d01: u64, d12: u64) -> Climbed
+fn fix_turn(s: &mut [u64], cap: u64, p0: u64, p1: u64, p2: u64, d01: u64, d12: u64) -> Result<Climbed, Refusal>
     requires room { Room s.old cap }
     requires p0_lt_cap { p0 < cap }
     requires p1_lt_cap { p1 < cap }
@@ -51,27 +52,27 @@ fn fix_turn(s: &mut [u64], cap: u64, p0: u64, p1: u64, p2: u64, d01: u64, d12: u
     };
     let rs1 = tree::rank_of(s, cap, t.s1);
     if r1 < r2 {
-        return Climbed::Done;
+        return Ok(Climbed::Done);
     }
     if BUDGET <= r1 {
-        return Climbed::NotSound;
+        return Err(Refusal::NotSound);
     }
     if BUDGET <= rs1 {
-        return Climbed::NotSound;
+        return Err(Refusal::NotSound);
     }
     if rs1 + 1 == r2 {
         return raise(s, cap, p2, t.n3, r1);
     }
     if d01 == d12 {
         turns::turn_same(s, cap, d01, t);
-        return Climbed::Done;
+        return Ok(Climbed::Done);
     }
     turns::turn_across(s, cap, d12, t);
-    Climbed::Done
+    Ok(Climbed::Done)
 }
 
-// The climb from three nodes, each the parent of the one before it. It is left by its label.
-fn climb(s: &mut [u64], cap: u64, q0: u64, q1: u64, q2: u64, e01: u64, e12: u64) -> bool
+// The climb from three nodes, each the parent of the one before it.
+fn climb(s: &mut [u64], cap: u64, q0: u64, q1: u64, q2: u64, e01: u64, e12: u64) -> Result<(), Refusal>
     requires room { Room s.old cap }
     requires q0_lt_cap { q0 < cap }
     requires q1_lt_cap { q1 < cap }
@@ -85,14 +86,8 @@ fn climb(s: &mut [u64], cap: u64, q0: u64, q1: u64, q2: u64, e01: u64, e12: u64)
     let mut p2 = q2;
     let mut d01 = e01;
     let mut d12 = e12;
-    let mut n: u64 = 0;
-    let fine = 'climb: loop {
-        if BUDGET <= n {
-            break 'climb false;
-        }
-        n += 1;
-        let a = fix_turn(s, cap, p0, p1, p2, d01, d12);
-        match a {
+    for _ in 0..BUDGET {
+        match fix_turn(s, cap, p0, p1, p2, d01, d12)? {
             Climbed::Up(p3, d) => {
                 p0 = p1;
                 p1 = p2;
@@ -100,19 +95,14 @@ fn climb(s: &mut [u64], cap: u64, q0: u64, q1: u64, q2: u64, e01: u64, e12: u64)
                 d01 = d12;
                 d12 = d;
             }
-            Climbed::Done => {
-                break 'climb true;
-            }
-            Climbed::NotSound => {
-                break 'climb false;
-            }
+            Climbed::Done => return Ok(()),
         }
-    };
-    fine
+    }
+    Err(Refusal::NotSound)
 }
 
 // The climb from n1, which has just become rank 2; its parent is p2, if it has one.
-fn climb_above(s: &mut [u64], cap: u64, p0: u64, p1: u64) -> bool
+fn climb_above(s: &mut [u64], cap: u64, p0: u64, p1: u64) -> Result<(), Refusal>
     requires room { Room s.old cap }
     requires p0_lt_cap { p0 < cap }
     requires p1_lt_cap { p1 < cap }
@@ -120,22 +110,22 @@ fn climb_above(s: &mut [u64], cap: u64, p0: u64, p1: u64) -> bool
 {
     let p2 = words::field(s, cap, p1, BACK);
     if cap <= p2 {
-        return true;
+        return Ok(());
     }
     let d01 = tree::side_of(s, cap, p1, p0);
     let d12 = tree::side_of(s, cap, p2, p1);
     climb(s, cap, p0, p1, p2, d01, d12)
 }
 
-// "Ranks after a new entry n0 (rank 1) under n1: if n1 had rank 2, stop. Else n1 becomes 2." The answer: whether the climb ended well.
-pub fn rebalance(s: &mut [u64], cap: u64, p0: u64, p1: u64) -> bool
+// "Ranks after a new entry n0 (rank 1) under n1: if n1 had rank 2, stop. Else n1 becomes 2." A climb that does not end is refused.
+pub fn rebalance(s: &mut [u64], cap: u64, p0: u64, p1: u64) -> Result<(), Refusal>
     requires room { Room s.old cap }
     requires p0_lt_cap { p0 < cap }
     requires p1_lt_cap { p1 < cap }
     ensures { (s.new, result) ≡ rebalanced s.old cap p0 p1 }
 {
     if words::field(s, cap, p1, RANK) == 2 {
-        return true;
+        return Ok(());
     }
     words::put(s, cap, p1, RANK, 2);
     climb_above(s, cap, p0, p1)

@@ -19,7 +19,7 @@ use Rattle.arena.specs.declared.slots.Freed.{Freed}
 use Rattle.arena.specs.declared.slots.Freed as F
 use Rattle.handle.specs.declared.Removed.{Removed}
 use Rattle.handle.specs.declared.Removed as D
-use Rattle.std.specs.Prelude.{Result, Ok, Err}
+use Rattle.std.specs.Prelude.{Result, Ok, Err, ⊤}
 use Rattle.handle.specs.declared.Refusal.TheVariants.{NotSound}
 use Rattle.handle.specs.declared.Refusal.{Refusal}
 
@@ -34,7 +34,7 @@ unfolding let_go
 let_go-steps s cap i x n r e q = rw (← e) q
 
 -- the entry x was read, and the node taken out
-module _ (s : List ℕ) (cap i : ℕ) (x : Entry) (e : x ≡ entry_of s cap i) (y : List ℕ) (t : Bool) (at : ◌≡◌ {A = List ℕ × Bool} (y, t) (take_out s cap i)) where
+module _ (s : List ℕ) (cap i : ℕ) (x : Entry) (e : x ≡ entry_of s cap i) (y : List ℕ) (t : Bool) (at : ◌≡◌ {A = List ℕ × Result ⊤ Refusal} (y, t) (take_out s cap i)) where
   pub live_unsound : t ≡ false → ◌≡◌ {A = List ℕ × Result Removed Refusal} (y, Err R.TheVariants.NotSound) (remove_live s cap i)
   unfolding remove_live
   live_unsound h = rw (← at, h)

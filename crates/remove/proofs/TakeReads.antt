@@ -14,7 +14,7 @@ use Rattle.remove.specs.inner.Take.{is_childless, settle_bare, settle_at, replac
 use Rattle.remove.specs.declared.lifting.Lifted.{Lifted}
 use Rattle.tree.specs.declared.Climbed.{Climbed}
 use Rattle.tree.specs.declared.Climbed.TheVariants.{Done, Up}
-use Rattle.std.specs.Prelude.{Result, Ok, Err}
+use Rattle.std.specs.Prelude.{Result, Ok, Err, ⊤}
 use Rattle.handle.specs.declared.Refusal.TheVariants.{NotSound}
 use Rattle.handle.specs.declared.Refusal.{Refusal}
 
@@ -25,20 +25,20 @@ childless_asks s cap i l r t e h f q = rw (← e, ← f, eq-eqb l no_slot h) q
 
 -- by the step up from a node left childless
 module _ (s : List ℕ) (cap q : ℕ) (x : List ℕ) (a : Result Climbed Refusal) (at : ◌≡◌ {A = List ℕ × Result Climbed Refusal} (x, a) (lower_one s cap q 1)) where
-  pub bare-up : (p d : ℕ) (r : List ℕ × Bool) → a ≡ Ok (Up p d) → r ≡ lower_from budget x cap p d → r ≡ settle_bare s cap q
+  pub bare-up : (p d : ℕ) (r : List ℕ × Result ⊤ Refusal) → a ≡ Ok (Up p d) → r ≡ lower_from budget x cap p d → r ≡ settle_bare s cap q
   unfolding settle_bare
   bare-up p d r e f = rw (← at, e) f
 
-  pub bare-done : a ≡ (Ok Done) → (x, true) ≡ settle_bare s cap q
+  pub bare-done : a ≡ (Ok Done) → (x, Ok tt) ≡ settle_bare s cap q
   unfolding settle_bare
   bare-done e = rw (← at, e)
 
-  pub bare-refused : a ≡ (Err NotSound) → (x, false) ≡ settle_bare s cap q
+  pub bare-refused : a ≡ (Err NotSound) → (x, Err NotSound) ≡ settle_bare s cap q
   unfolding settle_bare
   bare-refused e = rw (← at, e)
 
 -- m was lifted out and has taken i's place
-module _ (s : List ℕ) (cap i m : ℕ) (x : List ℕ) (l : Lifted) (at : ◌≡◌ {A = List ℕ × Lifted} (x, l) (lift_out s cap m)) (y : List ℕ) (f : y ≡ node_replaced x cap i m) (r : List ℕ × Bool) where
+module _ (s : List ℕ) (cap i m : ℕ) (x : List ℕ) (l : Lifted) (at : ◌≡◌ {A = List ℕ × Lifted} (x, l) (lift_out s cap m)) (y : List ℕ) (f : y ≡ node_replaced x cap i m) (r : List ℕ × Result ⊤ Refusal) where
   pub fill_under : l.under ≡ i → r ≡ settle_at y cap m l.side → r ≡ filled_by s cap i m
   unfolding filled_by filled_from
   fill_under e q = rw (← at, ← f, eq-eqb l.under i e) q
@@ -47,13 +47,13 @@ module _ (s : List ℕ) (cap i m : ℕ) (x : List ℕ) (l : Lifted) (at : ◌≡
   unfolding filled_by filled_from
   fill_apart e q = rw (← at, ← f, ne_eqb l.under i e) q
 
-module _ (s : List ℕ) (cap i : ℕ) (t : Bool) (is : t ≡ is_childless s cap i) (r : List ℕ × Bool) where
+module _ (s : List ℕ) (cap i : ℕ) (t : Bool) (is : t ≡ is_childless s cap i) (r : List ℕ × Result ⊤ Refusal) where
   pub take-leaf : t ≡ true → (x : List ℕ) (l : Lifted) → ◌≡◌ {A = List ℕ × Lifted} (x, l) (lift_out s cap i) → r ≡ settle_at x cap l.under l.side
       → r ≡ take_out s cap i
   unfolding take_out closed_from
   take-leaf h x l at q = rw (← is, h, ← at) q
 
-  pub take-refused : t ≡ false → (m : ℕ) → m ≡ replacement_of s cap i → cap ≤ m → (s, false) ≡ take_out s cap i
+  pub take-refused : t ≡ false → (m : ℕ) → m ≡ replacement_of s cap i → cap ≤ m → (s, Err NotSound) ≡ take_out s cap i
   unfolding take_out take_over
   take-refused h m e l = rw (← is, h, ← e, le-leb cap m l)
 

@@ -5,16 +5,15 @@ ghost use Rattle.arena.specs.Words.{Room};
 ghost use Rattle.remove.specs.inner.Remove.{read_by};
 
 use arena::entries;
-use handle::{Entry, Handle, Reading, Refusal};
+use handle::{Entry, Handle, Refusal};
 
 // The entry that h names.
-pub fn read(s: &[u64], cap: u64, h: Handle) -> Reading
+pub fn read(s: &[u64], cap: u64, h: Handle) -> Result<Entry, Refusal>
     requires { Room s.now cap }
     ensures { result ≡ read_by s.now cap h }
 {
     if entries::live(s, cap, h) {
-        let entry = entries::read_entry(s, cap, h.slot.0);
-        return Reading::Entry(entry);
+        return Ok(entries::read_entry(s, cap, h.slot.0));
     }
-    Reading::Refused(Refusal::InvalidPtr)
+    Err(Refusal::InvalidPtr)
 }

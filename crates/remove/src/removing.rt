@@ -8,10 +8,10 @@ ghost use Rattle.remove.specs.inner.Remove.{let_go, remove_live, remove_by};
 use crate::taking;
 use arena::slots::Freed;
 use arena::{entries, slots};
-use handle::{Entry, Handle, Refusal, Removed};
+use handle::{Handle, Refusal, Removed};
 
 // The slot i leaves the chain and is freed.
-fn let_go(s: &mut [u64], cap: u64, i: u64) -> Freed
+fn let_go(s: &mut [u64], cap: u64, i: u64) -> Result<Freed, Refusal>
     requires room { Room s.old cap }
     requires i_lt_cap { i < cap }
     ensures { (s.new, result) ≡ let_go s.old cap i }
@@ -21,36 +21,26 @@ fn let_go(s: &mut [u64], cap: u64, i: u64) -> Freed
 }
 
 // Removes the live entry in the slot i. It is read before it is moved.
-fn remove_live(s: &mut [u64], cap: u64, i: u64) -> Removed
+fn remove_live(s: &mut [u64], cap: u64, i: u64) -> Result<Removed, Refusal>
     requires room { Room s.old cap }
     requires i_lt_cap { i < cap }
     ensures { (s.new, result) ≡ remove_live s.old cap i }
 {
     let entry = entries::read_entry(s, cap, i);
-    if taking::take_out(s, cap, i) {
-        let freed = let_go(s, cap, i);
-        match freed {
-            Freed::Again => {
-                return Removed::Entry(entry);
-            }
-            Freed::GenerationOverflow => {
-                return Removed::GenerationOverflow(entry);
-            }
-            Freed::NotSound => {
-                return Removed::Refused(Refusal::NotSound);
-            }
-        }
+    taking::take_out(s, cap, i)?;
+    match let_go(s, cap, i)? {
+        Freed::Again => Ok(Removed::Entry(entry)),
+        Freed::GenerationOverflow => Ok(Removed::GenerationOverflow(entry)),
     }
-    Removed::Refused(Refusal::NotSound)
 }
 
 // Removes the entry that h names.
-pub fn remove(s: &mut [u64], cap: u64, h: Handle) -> Removed
+pub fn remove(s: &mut [u64], cap: u64, h: Handle) -> Result<Removed, Refusal>
     requires { Room s.old cap }
     ensures { (s.new, result) ≡ remove_by s.old cap h }
 {
     if entries::live(s, cap, h) {
         return remove_live(s, cap, h.slot.0);
     }
-    Removed::Refused(Refusal::InvalidPtr)
+    Err(Refusal::InvalidPtr)
 }

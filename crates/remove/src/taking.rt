@@ -1,5 +1,5 @@
 // Taking a node out of the tree: a leaf is lifted out, another node is replaced by its neighbour in the chain; then the ranks are mended.
-// The answer says whether all went as it does on every sound store. The chain and the slot itself are left to the caller.
+// NotSound is answered on no sound store. The chain and the slot itself are left to the caller.
 // From the Rust: internal_remove of ord/remove.rs.
 ghost use Rattle.std.specs.Prelude.{◌≡◌, ◌<◌, ◌≤◌};
 ghost use Rattle.arena.specs.Words.{Room};
@@ -8,7 +8,7 @@ ghost use Rattle.remove.specs.inner.Take.{is_childless, settle_bare, settle_at, 
 use crate::lifting;
 use arena::words;
 use arena::words::{LEFT, NEXT, PREV, RIGHT};
-use handle::Handle;
+use handle::{Handle, Refusal};
 use lower::climbing;
 use tree::Climbed;
 
@@ -25,33 +25,25 @@ fn childless(s: &[u64], cap: u64, i: u64) -> bool
 }
 
 // "If that parent is left childless it gets rank 1 and the climb goes one up."
-fn settle_bare(s: &mut [u64], cap: u64, q: u64) -> bool
+fn settle_bare(s: &mut [u64], cap: u64, q: u64) -> Result<(), Refusal>
     requires room { Room s.old cap }
     requires q_lt_cap { q < cap }
     ensures { (s.new, result) ≡ settle_bare s.old cap q }
 {
-    let up = climbing::lower_one(s, cap, q, 1);
-    match up {
-        Climbed::Up(p, d) => {
-            return climbing::climb(s, cap, p, d);
-        }
-        Climbed::Done => {
-            return true;
-        }
-        Climbed::NotSound => {
-            return false;
-        }
+    match climbing::lower_one(s, cap, q, 1)? {
+        Climbed::Up(p, d) => climbing::climb(s, cap, p, d),
+        Climbed::Done => Ok(()),
     }
 }
 
 // The ranks from q on, whose child on the side e lost a node; nothing to do where there is no node above.
-fn settle(s: &mut [u64], cap: u64, q: u64, e: u64) -> bool
+fn settle(s: &mut [u64], cap: u64, q: u64, e: u64) -> Result<(), Refusal>
     requires room { Room s.old cap }
     requires e_bound { e ≤ 1 }
     ensures { (s.new, result) ≡ settle_at s.old cap q e }
 {
     if cap <= q {
-        return true;
+        return Ok(());
     }
     if childless(s, cap, q) {
         return settle_bare(s, cap, q);
@@ -73,7 +65,7 @@ fn replacement(s: &[u64], cap: u64, i: u64) -> u64
 }
 
 // m leaves its place and takes i's; where it hung under i, the ranks are mended from m on.
-fn fill(s: &mut [u64], cap: u64, i: u64, m: u64) -> bool
+fn fill(s: &mut [u64], cap: u64, i: u64, m: u64) -> Result<(), Refusal>
     requires room { Room s.old cap }
     requires i_lt_cap { i < cap }
     requires m_lt_cap { m < cap }
@@ -88,7 +80,7 @@ fn fill(s: &mut [u64], cap: u64, i: u64, m: u64) -> bool
 }
 
 // The node i leaves the tree.
-pub fn take_out(s: &mut [u64], cap: u64, i: u64) -> bool
+pub fn take_out(s: &mut [u64], cap: u64, i: u64) -> Result<(), Refusal>
     requires room { Room s.old cap }
     requires i_lt_cap { i < cap }
     ensures { (s.new, result) ≡ take_out s.old cap i }
@@ -99,7 +91,7 @@ pub fn take_out(s: &mut [u64], cap: u64, i: u64) -> bool
     }
     let m = replacement(s, cap, i);
     if cap <= m {
-        return false;
+        return Err(Refusal::NotSound);
     }
     fill(s, cap, i, m)
 }

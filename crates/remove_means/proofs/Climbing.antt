@@ -18,6 +18,8 @@ use Rattle.wavl.proofs.Removed.{beside}
 use Rattle.lower.specs.inner.Climb.{lower_from}
 use Rattle.queue_of_store.specs.Ends.{number}
 use Rattle.queue_of_store.specs.Links.{TreeWords}
+use Rattle.std.specs.Prelude.{Result, Ok, ⊤}
+use Rattle.handle.specs.declared.Refusal.{Refusal}
 
 -- the rank at the end of a way from a tree of rank h
 abbrev pub peak : ℕ → Way → ℕ
@@ -40,6 +42,6 @@ pub record Climbing (s : List ℕ) (cap : ℕ) (l : List ℕ) (n0 : Tree) (p : W
   pub low : peak (suc (rank n0)) p < budget
 
 -- the climb at the end of a way, with so many turns left
-abbrev pub climb_up : Way → ℕ → List ℕ → ℕ → List ℕ × Bool
-climb_up [] fuel s cap = (s, true)
+abbrev pub climb_up : Way → ℕ → List ℕ → ℕ → List ℕ × Result ⊤ Refusal
+climb_up [] fuel s cap = (s, Ok tt)
 climb_up (step d e r u ∷ p) fuel s cap = lower_from fuel s cap e.slot (number d)

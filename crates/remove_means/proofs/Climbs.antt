@@ -295,7 +295,7 @@ pub climbs : (cap : ℕ) → cap ≤ no_slot → (l : List ℕ) (p : Way) (fuel 
     → Came s cap l (remove_climb n0 p) (climb_up p fuel s cap)
 unfolding plug
 climbs cap few l [] fuel s n0 h c =
-    let root : Came s cap l (remove_climb n0 []) (s, true) = rw (remove-root n0) (record { yes = refl; words = c.words; only = only_none }) in root
+    let root : Came s cap l (remove_climb n0 []) (s, Ok tt) = rw (remove-root n0) (record { yes = refl; words = c.words; only = only_none }) in root
 climbs cap few l (step d e1 r1 s0 ∷ q) zero s n0 h c = absurd (omega arith)
 climbs cap few l (step d e1 r1 s0 ∷ q) (suc fuel) s n0 h c =
     turned s cap few l d n0 e1 r1 s0 q fuel c (λ t x k. climbs cap few l q fuel t x (omega arith) k)

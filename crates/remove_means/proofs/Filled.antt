@@ -30,6 +30,8 @@ use Rattle.remove_means.proofs.Climbing.{peak}
 use Rattle.remove_means.proofs.Settled.{closing, settled}
 use Rattle.remove_means.proofs.Lifted.{lifted, lift_is, lifted-only, lifted-room, lifted-words, lifted-distinct, lifted-gone, lifted-member}
 use Rattle.remove_means.proofs.Standing.{stood, stands-is, stands-words, stands-only, stands-distinct, stands-member, stands-room}
+use Rattle.std.specs.Prelude.{Result, ⊤}
+use Rattle.handle.specs.declared.Refusal.{Refusal}
 
 pub plug_append : (w q : Way) (t : Tree) → plug t (w ++ q) ≡ plug (plug t w) q
 unfolding plug
@@ -56,7 +58,7 @@ module _ (d : Side) (x e : Entry) (r : ℕ) (b : Tree) (p : Way) where
   has_end [] = inl refl
   has_end (step c f q u ∷ w) = inr (inr (has_end w))
 
-pub came_weaken : (s : List ℕ) (cap : ℕ) (l m : List ℕ) (t : Tree) (y : List ℕ × Bool) → ((j : ℕ) → In j l → In j m) → Came s cap l t y → Came s cap m t y
+pub came_weaken : (s : List ℕ) (cap : ℕ) (l m : List ℕ) (t : Tree) (y : List ℕ × Result ⊤ Refusal) → ((j : ℕ) → In j l → In j m) → Came s cap l t y → Came s cap m t y
 came_weaken s cap l m t y f k =
     record { yes = k.yes; words = k.words; only = only_weaken (λ j g hj z. record { slot_in = f j z.slot_in; field_is = z.field_is }) (λ h z. z) k.only }
 

@@ -34,6 +34,7 @@ use Rattle.remove_means.proofs.Lowered.{lowered, goes_up}
 use Rattle.queue_of_store.proofs.AnyDepth.{Came}
 use Rattle.remove_means.proofs.Climbing.{peak, peak-above}
 use Rattle.remove_means.proofs.Climbs.{onward-is, climbs}
+use Rattle.std.specs.Prelude.{Ok}
 
 -- the words hold a tree with the slots l, in which c hangs where a node one higher than it has gone
 pub record Lifting (s : List ℕ) (cap : ℕ) (l : List ℕ) (c : Tree) (p : Way) : Type 0 where
@@ -90,7 +91,7 @@ bare-same right e r = refl
 
 module _ (cap : ℕ) (few : cap ≤ no_slot) (l : List ℕ) (s : List ℕ) where
   -- no slot above
-  at-root : settle_at s cap no_slot 0 ≡ (s, true)
+  at-root : settle_at s cap no_slot 0 ≡ (s, Ok tt)
   unfolding settle_at
   at-root = rw (le-leb cap no_slot few)
 

@@ -8,7 +8,7 @@ use Rattle.tree.specs.inner.Climb.{Standing, on_climbed}
 use Rattle.tree.specs.inner.Kept.{TreeOnly}
 use Rattle.tree.specs.declared.Climbed.{Climbed}
 use Rattle.tree.specs.declared.Climbed.TheVariants.{Done, Up}
-use Rattle.std.specs.Prelude.{Result, Ok, Err}
+use Rattle.std.specs.Prelude.{Result, Ok, Err, ⊤}
 use Rattle.handle.specs.declared.Refusal.TheVariants.{NotSound}
 use Rattle.handle.specs.declared.Refusal.{Refusal}
 
@@ -30,11 +30,11 @@ pub turned_bad : (s : List ℕ) (cap : ℕ) → Turned s cap (s, Err NotSound)
 turned_bad s cap = (only_none, tt)
 
 -- a whole climb touches the tree alone
-abbrev pub Settled : List ℕ → ℕ → List ℕ × Bool → Type 0
+abbrev pub Settled : List ℕ → ℕ → List ℕ × Result ⊤ Refusal → Type 0
 Settled s cap x = TreeOnly s x.0 cap
 
 -- by a turn's answer: `go` is the climb from there on
-pub on_only : (s t : List ℕ) (cap : ℕ) (a : Result Climbed Refusal) (go : ℕ → ℕ → List ℕ × Bool) → TreeOnly s t cap → Standing cap a
+pub on_only : (s t : List ℕ) (cap : ℕ) (a : Result Climbed Refusal) (go : ℕ → ℕ → List ℕ × Result ⊤ Refusal) → TreeOnly s t cap → Standing cap a
     → ((p d : ℕ) → p < cap → d ≤ 1 → Settled t cap (go p d)) → Settled s cap (on_climbed a go t)
 on_only s t cap (Ok (Up p d)) go o i f = only_trans o (f p d i.0 i.1)
 on_only s t cap (Ok Done) go o i f = o

@@ -12,11 +12,10 @@ use arena::words::{BACK, LEFT, RANK, RIGHT, ROOT};
 use handle::Handle;
 
 // After a turn of a climb: the ranks fit from here on, or the climb goes on at a node and its side on which the turn was.
-#[derive(Drop)]
+#[derive(Clone, Copy)]
 pub enum Climbed {
     Done,
     Up(u64, u64),
-    NotSound,
 }
 
 // A node as it is to be written: its parent or no slot, its child on a side that is said beside it, its other child, its rank.

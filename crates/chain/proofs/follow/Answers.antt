@@ -1,5 +1,4 @@
 use Rattle.arena.proofs.Paths.{paths}
-use Rattle.arena.proofs.SlotReads.{handle-is}
 use Rattle.chain.proofs.StepReads.{stepped_at, stepped_in}
 use Rattle.chain.specs.inner.Steps.{followed}
 use Rattle.chain.proofs.follow.Goals as goal
@@ -14,4 +13,4 @@ returns-then-cap-p c = search paths depth 12
 
 pub returns : goal.returns
 unfolding followed
-returns c = record { value = search (stepped_at, handle-is, paths) depth 12; stepped_in = search stepped_in }
+returns c = record { value = search (stepped_at, paths) depth 12; stepped_in = search stepped_in }

@@ -9,9 +9,6 @@ returns-then-root-eq-NO_SLOT c = search none
 pub loop-n-init : goal.loop-n-init
 loop-n-init c = (omega arith, search start)
 
-pub overflow_add-n : goal.overflow_add-n
-overflow_add-n c = omega arith
-
 pub field-key-requires : goal.field-key-requires
 field-key-requires c = omega arith
 
@@ -29,9 +26,9 @@ pub loop-n-preserved : goal.loop-n-preserved
 unfolding budget
 loop-n-preserved c = (omega arith, search down)
 
-pub returns-then-n-ge-BUDGET : goal.returns-then-n-ge-BUDGET
+pub returns : goal.returns
 unfolding budget
-returns-then-n-ge-BUDGET c = search spent
+returns c = search spent
 
 pub returns-then-cap-p : goal.returns-then-cap-p
 unfolding budget
@@ -43,4 +40,4 @@ returns-then-key-k c = record { value = search equal; found_in = omega arith }
 
 pub returns-then-q-eq-NO_SLOT : goal.returns-then-q-eq-NO_SLOT
 unfolding budget
-returns-then-q-eq-NO_SLOT c = record { value = beside _ _ _ _ _ _ c.loop-n.invariant.1 c.if-n-ge-BUDGET.false c.if-cap-p.false _ c.field-key.ensures c.if-key-k.false _ _ c.side_of-d.ensures.value c.field-q.ensures c.if-q-eq-NO_SLOT.true; found_in = omega arith }
+returns-then-q-eq-NO_SLOT c = record { value = beside _ _ _ _ _ _ c.loop-n.invariant.1 (omega arith) c.if-cap-p.false _ c.field-key.ensures c.if-key-k.false _ _ c.side_of-d.ensures.value c.field-q.ensures c.if-q-eq-NO_SLOT.true; found_in = omega arith }

@@ -1,6 +1,6 @@
 -- Placing, as a function of the store, for any words: the store afterwards and the answer.
 -- Document 01: "Any insertion answers New or Replacing with the handle, and the old value if replacing."
-use Rattle.std.specs.Prelude.{ℕ, Bool, true, false, List, ℤ, Result, Ok, Err}
+use Rattle.std.specs.Prelude.{ℕ, Bool, true, false, List, ℤ, Result, Ok, Err, ⊤}
 use Rattle.handle.specs.Numbers.{no_slot}
 use Rattle.handle.specs.declared.Handle.{Handle}
 use Rattle.handle.specs.declared.Side.{Side}
@@ -43,13 +43,13 @@ placed_alone s cap key value = let x = take_slot s cap in alone_as cap key value
 unfoldable pub hung : List ℕ → ℕ → ℕ → ℕ → ℕ → ℤ → ℕ → List ℕ
 hung s cap i p d key value = with_child (link_beside (with_node (entry_put s cap i key value) cap 0 i (childless p)) cap i p d) cap p d i
 
-unfoldable pub hung_below : List ℕ → ℕ → ℕ → ℕ → ℕ → ℤ → ℕ → List ℕ × Bool
+unfoldable pub hung_below : List ℕ → ℕ → ℕ → ℕ → ℕ → ℤ → ℕ → List ℕ × Result ⊤ Refusal
 hung_below s cap i p d key value = rebalanced (hung s cap i p d key value) cap i p
 
 -- by how the ranks came out
-abbrev pub hung_as : Handle → List ℕ → Bool → List ℕ × Result Inserted Refusal
-hung_as h s true = (s, Ok (New h))
-hung_as h s false = (s, Err R.TheVariants.NotSound)
+abbrev pub hung_as : Handle → List ℕ → Result ⊤ Refusal → List ℕ × Result Inserted Refusal
+hung_as h s (Ok u) = (s, Ok (New h))
+hung_as h s (Err n) = (s, Err n)
 
 -- by the slot that was taken
 abbrev pub beside_as : ℕ → ℕ → ℕ → ℤ → ℕ → List ℕ → Result Handle Refusal → List ℕ × Result Inserted Refusal

@@ -1,7 +1,7 @@
 -- The ranks after a new entry, as functions of the store, for any words.
 -- Document 01: "Ranks after a new entry n0 (rank 1) under n1: if n1 had rank 2, stop. Else n1 becomes 2. Then with n2 above n1: no n2,
 -- or n1's rank below n2's: stop. If n2's other child is one below n2, raise n2 by one and climb. Otherwise restructure once and stop".
-use Rattle.std.specs.Prelude.{ℕ, zero, suc, ◌+◌, ◌-◌, Bool, true, false, List, ltb, leb, eqb, Result, Ok, Err}
+use Rattle.std.specs.Prelude.{ℕ, zero, suc, ◌+◌, ◌-◌, Bool, true, false, List, ltb, leb, eqb, Result, Ok, Err, ⊤}
 use Rattle.arena.specs.Branch.{ifte}
 use Rattle.arena.specs.Words.{field, put, RIGHT, RANK, BACK}
 use Rattle.arena.specs.inner.Budget.{budget}
@@ -38,20 +38,20 @@ fix_turn s cap p0 p1 p2 d01 d12 =
     (field s cap p1 RANK) (field s cap p2 RANK) (rank_of s cap (field s cap p2 (RIGHT - d12)))
 
 -- `fuel` turns may still be taken
-unfoldable pub raise_from : ℕ → List ℕ → ℕ → ℕ → ℕ → ℕ → ℕ → ℕ → List ℕ × Bool
-raise_from zero s cap p0 p1 p2 d01 d12 = (s, false)
+unfoldable pub raise_from : ℕ → List ℕ → ℕ → ℕ → ℕ → ℕ → ℕ → ℕ → List ℕ × Result ⊤ Refusal
+raise_from zero s cap p0 p1 p2 d01 d12 = (s, Err NotSound)
 raise_from (suc fuel) s cap p0 p1 p2 d01 d12 =
     let x = fix_turn s cap p0 p1 p2 d01 d12 in
     on_climbed x.1 (λ p3 d. raise_from fuel x.0 cap p1 p2 p3 d12 d) x.0
 
 -- from n1, by what stands above it
-unfoldable pub climbed_to : List ℕ → ℕ → ℕ → ℕ → ℕ → List ℕ × Bool
+unfoldable pub climbed_to : List ℕ → ℕ → ℕ → ℕ → ℕ → List ℕ × Result ⊤ Refusal
 climbed_to s cap p0 p1 p2 =
-    ifte (leb cap p2) (s, true)
+    ifte (leb cap p2) (s, Ok tt)
     (raise_from budget s cap p0 p1 p2 (side_of_child s cap p1 p0) (side_of_child s cap p2 p1))
 
-unfoldable pub climbed_above : List ℕ → ℕ → ℕ → ℕ → List ℕ × Bool
+unfoldable pub climbed_above : List ℕ → ℕ → ℕ → ℕ → List ℕ × Result ⊤ Refusal
 climbed_above s cap p0 p1 = climbed_to s cap p0 p1 (field s cap p1 BACK)
 
-unfoldable pub rebalanced : List ℕ → ℕ → ℕ → ℕ → List ℕ × Bool
-rebalanced s cap p0 p1 = ifte (eqb (field s cap p1 RANK) 2) (s, true) (climbed_above (put s cap p1 RANK 2) cap p0 p1)
+unfoldable pub rebalanced : List ℕ → ℕ → ℕ → ℕ → List ℕ × Result ⊤ Refusal
+rebalanced s cap p0 p1 = ifte (eqb (field s cap p1 RANK) 2) (s, Ok tt) (climbed_above (put s cap p1 RANK 2) cap p0 p1)

@@ -1,7 +1,7 @@
 -- Removal and reading by handle, as functions of the store, for any words.
 -- Document 01: "At the top generation the entry is still removed and returned, with the note GenerationOverflow"; "InvalidPtr: removal,
 -- reading or stepping with a handle that names no live entry"; "Reading and removal answer key and value."
-use Rattle.std.specs.Prelude.{ℕ, Bool, List, Result, Ok, Err}
+use Rattle.std.specs.Prelude.{ℕ, Bool, List, Result, Ok, Err, ⊤}
 use Rattle.handle.specs.declared.Handle.{Handle}
 use Rattle.handle.specs.declared.Refusal.TheVariants.{InvalidPtr}
 use Rattle.handle.specs.declared.Refusal as R
@@ -31,8 +31,12 @@ abbrev pub noted_as : List ℕ × (Result Freed Refusal) → Entry → List ℕ 
 noted_as y x = (y.0, noted y.1 x)
 
 -- out of the tree, then out of the chain
-abbrev pub gone_from : List ℕ × Bool → ℕ → ℕ → Entry → List ℕ × Result Removed Refusal
-gone_from y cap i x = ifte y.1 (noted_as (let_go y.0 cap i) x) (y.0, Err R.TheVariants.NotSound)
+abbrev pub gone_as : List ℕ → Result ⊤ Refusal → ℕ → ℕ → Entry → List ℕ × Result Removed Refusal
+gone_as s (Ok u) cap i x = noted_as (let_go s cap i) x
+gone_as s (Err n) cap i x = (s, Err n)
+
+abbrev pub gone_from : List ℕ × Result ⊤ Refusal → ℕ → ℕ → Entry → List ℕ × Result Removed Refusal
+gone_from y cap i x = gone_as y.0 y.1 cap i x
 
 unfoldable pub remove_live : List ℕ → ℕ → ℕ → List ℕ × Result Removed Refusal
 remove_live s cap i = gone_from (take_out s cap i) cap i (entry_of s cap i)

@@ -1,45 +1,32 @@
-use mathlib.Core.Path.{refl}
+use mathlib.Core.Path.{refl, ◌∙◌, ap}
 use native.Mathlib.Omega.{arith}
+use Rattle.std.proofs.Common.{rules}
+use Rattle.std.proofs.lemmas.Result.{err_from_is_err_and}
+use Rattle.std.specs.Prelude.{Ok}
 use Rattle.arena.specs.inner.Budget.{budget}
 use Rattle.tree.proofs.Climb.{up-low, up-side}
 use Rattle.lower.proofs.ClimbLoop.{again, ended, refused, spent}
 use Rattle.lower.proofs.climbing.climb.Goals as goal
 
-pub climb-init : goal.climb-init
+pub loop-init : goal.loop-init
 unfolding budget
-climb-init c = (omega arith, refl, omega arith, omega arith, refl)
+loop-init c = (omega arith, omega arith, refl)
 
-pub climb_turn-a-requires : goal.climb_turn-a-requires
-climb_turn-a-requires c = omega arith
+pub climb_turn-requires : goal.climb_turn-requires
+climb_turn-requires c = omega arith
 
-pub overflow_add-n : goal.overflow_add-n
-overflow_add-n c = omega arith
-
-pub climb-smaller : goal.climb-smaller
+pub loop-preserved : goal.loop-preserved
 unfolding budget
-climb-smaller c = omega arith
+loop-preserved c = let e = c.in_ok-p2.was ∙ ap Ok c.in-Up.is in (search up-low, search up-side, search again)
 
-pub climb-preserved : goal.climb-preserved
+pub returns-in_err-p2 : goal.returns-in_err-p2
 unfolding budget
-climb-preserved c = (omega arith, omega arith, search up-low, search up-side, search again)
-
-pub shape_of-s-then-n-ge-BUDGET : goal.shape_of-s-then-n-ge-BUDGET
-shape_of-s-then-n-ge-BUDGET c = omega arith
-
-pub returns-then-n-ge-BUDGET : goal.returns-then-n-ge-BUDGET
-unfolding budget
-returns-then-n-ge-BUDGET c = search (spent, refused)
-
-pub shape_of-s-in-Done : goal.shape_of-s-in-Done
-shape_of-s-in-Done c = omega arith
+returns-in_err-p2 c = let e = c.in_err-p2.was in let p = err_from_is_err_and c.from_residual.result c.from_residual.ensures.1 in rw (p.1, p.2) (search refused)
 
 pub returns-in-Done : goal.returns-in-Done
 unfolding budget
-returns-in-Done c = search ended
+returns-in-Done c = let e = c.in_ok-p2.was ∙ ap Ok c.in-Done.is in search ended
 
-pub shape_of-s-in-NotSound : goal.shape_of-s-in-NotSound
-shape_of-s-in-NotSound c = omega arith
-
-pub returns-in-NotSound : goal.returns-in-NotSound
+pub returns : goal.returns
 unfolding budget
-returns-in-NotSound c = search (spent, refused)
+returns c = search spent

@@ -1,45 +1,32 @@
-use mathlib.Core.Path.{refl}
+use mathlib.Core.Path.{refl, ◌∙◌, ap}
 use native.Mathlib.Omega.{arith}
+use Rattle.std.proofs.Common.{rules}
+use Rattle.std.proofs.lemmas.Result.{err_from_is_err_and}
+use Rattle.std.specs.Prelude.{Ok}
 use Rattle.arena.specs.inner.Budget.{budget}
 use Rattle.tree.proofs.Climb.{up-low, up-side}
 use Rattle.raise.proofs.Climbs.{again, ended, refused, spent}
 use Rattle.raise.proofs.ranks.climb.Goals as goal
 
-pub climb-init : goal.climb-init
+pub loop-init : goal.loop-init
 unfolding budget
-climb-init c = (omega arith, refl, omega arith, omega arith, omega arith, omega arith, omega arith, refl)
+loop-init c = (omega arith, omega arith, omega arith, omega arith, omega arith, refl)
 
-pub overflow_add-n : goal.overflow_add-n
-overflow_add-n c = omega arith
+pub fix_turn-requires : goal.fix_turn-requires
+fix_turn-requires c = omega arith
 
-pub fix_turn-a-requires : goal.fix_turn-a-requires
-fix_turn-a-requires c = omega arith
-
-pub climb-smaller : goal.climb-smaller
+pub loop-preserved : goal.loop-preserved
 unfolding budget
-climb-smaller c = omega arith
+loop-preserved c = let e = c.in_ok-p3.was ∙ ap Ok c.in-Up.is in (omega arith, omega arith, search up-low, omega arith, search up-side, search again)
 
-pub climb-preserved : goal.climb-preserved
+pub returns-in_err-p3 : goal.returns-in_err-p3
 unfolding budget
-climb-preserved c = (omega arith, omega arith, omega arith, omega arith, search up-low, omega arith, search up-side, search again)
-
-pub shape_of-s-then-n-ge-BUDGET : goal.shape_of-s-then-n-ge-BUDGET
-shape_of-s-then-n-ge-BUDGET c = omega arith
-
-pub returns-then-n-ge-BUDGET : goal.returns-then-n-ge-BUDGET
-unfolding budget
-returns-then-n-ge-BUDGET c = search spent
-
-pub shape_of-s-in-Done : goal.shape_of-s-in-Done
-shape_of-s-in-Done c = omega arith
+returns-in_err-p3 c = let e = c.in_err-p3.was in let p = err_from_is_err_and c.from_residual.result c.from_residual.ensures.1 in rw (p.1, p.2) (search refused)
 
 pub returns-in-Done : goal.returns-in-Done
 unfolding budget
-returns-in-Done c = search ended
+returns-in-Done c = let e = c.in_ok-p3.was ∙ ap Ok c.in-Done.is in search ended
 
-pub shape_of-s-in-NotSound : goal.shape_of-s-in-NotSound
-shape_of-s-in-NotSound c = omega arith
-
-pub returns-in-NotSound : goal.returns-in-NotSound
+pub returns : goal.returns
 unfolding budget
-returns-in-NotSound c = search refused
+returns c = search spent
