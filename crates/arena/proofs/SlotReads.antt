@@ -6,7 +6,7 @@ use mathlib.Core.List.{List}
 use native.Mathlib.Omega.{arith}
 use lib.Dec.{eqb}
 use lib.ListN.{length}
-use borrow.Author.Tests.{lt-ltb, le-ltb, lt-leb, ltb-false}
+use borrow.Author.Tests.{lt-ltb, le-ltb, lt-leb, leb-false, ltb-false}
 use Rattle.handle.specs.declared.Generation.{Generation}
 use Rattle.handle.specs.declared.Handle.{Handle}
 use Rattle.handle.specs.declared.Refusal.TheVariants.{BadLayout, NotSound, NotWithinCapacity}
@@ -21,7 +21,7 @@ use Rattle.arena.specs.inner.Laying.{blank_of, good_layout, fresh_head, lay_slot
 use Rattle.arena.specs.inner.Slots.{PeekedIn, handle_with, found_at, peek_from, peek_slot, popped, take_slot, pushed, free_with, free_slot}
 use Rattle.arena.specs.inner.Entries.{is_live, entry_of}
 use Rattle.handle.specs.declared.Entry.{Entry}
-use Rattle.arena.proofs.Paths.{no_refusals, wrote}
+use Rattle.arena.proofs.Paths.{no_refusal, no_refusals, wrote}
 use Rattle.arena.specs.declared.slots.Freed.{Freed}
 use Rattle.std.specs.Prelude.{Result, Ok, Err, ⊤}
 use Rattle.handle.specs.declared.Refusal.{Refusal}
@@ -70,6 +70,11 @@ module _ (s : List ℕ) (cap : ℕ) (h : Handle) (low : h.slot.0 < cap) (r : ℕ
   pub live_asks : 1 ≤ r → (g : ℕ) → g ≡ field s cap h.slot.0 GENERATION → (t : Bool) → t ≡ eqb g h.generation.0 → t ≡ is_live s cap h
   unfolding is_live
   live_asks l g f t q = rw (← e, ← f, lt-leb cap h.slot.0 low, le-ltb r 1 l) q
+
+-- a handle that names a live entry has a slot in the store
+pub live_low : (s : List ℕ) (cap : ℕ) (h : Handle) (t : Bool) → t ≡ is_live s cap h → t ≡ true → h.slot.0 < cap
+unfolding is_live
+live_low s cap h t e f = leb-false cap h.slot.0 (no_refusal _ _ (sym e ∙ f)).0
 
 pub entry-reads : (s : List ℕ) (cap i : ℕ) (r : Entry) (w : ℕ) → w ≡ field s cap i KEY → r.key.0 ≡ signed w → r.value ≡ field s cap i VALUE → r ≡ entry_of s cap i
 unfolding entry_of

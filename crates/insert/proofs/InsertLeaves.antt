@@ -27,13 +27,13 @@ use Rattle.raise.proofs.RaiseLeaves.{rebalanced-only}
 use Rattle.insert.specs.inner.Kept.{Within}
 use Rattle.insert.specs.inner.Kinds.{PreparedIn, as_found, prepared_normal, prepared_empty, lies_on, prepared_equal, place_beside, beside_next, prepared_beside, by_side, prepared_manual}
 use Rattle.insert.specs.inner.Place.{stand_alone, alone_as, placed_alone, hung, hung_below, hung_as, beside_as, placed_beside, value_replaced, applied, normal_inserted, empty_inserted, manual_inserted}
-use Rattle.insert.proofs.Choices.{live-low}
+use Rattle.arena.proofs.SlotReads.{live_low}
 use Rattle.insert.proofs.Keeps.{entry-within, take_well}
 use Rattle.find.specs.declared.Found.{Found}
 use Rattle.find.specs.declared.Found as F
 use Rattle.insert.specs.declared.kinds.Prepared.{Prepared}
 use Rattle.insert.specs.declared.kinds.Prepared.TheVariants.{Alone, Beside, Replace}
-use Rattle.std.specs.Prelude.{Result, Ok, Err}
+use Rattle.std.specs.Prelude.{Result, Ok, Err, ⊤}
 use Rattle.handle.specs.declared.Refusal.TheVariants.{FailedOrdRequirement, NotSound}
 use Rattle.handle.specs.declared.Refusal.{Refusal}
 
@@ -86,7 +86,7 @@ pub manual_in : (s : List ℕ) (cap : ℕ) (h : Handle) (side : Side) (k : ℕ) 
 unfolding prepared_manual
 manual_in s cap h side k =
     either (PreparedIn cap) (is_live s cap h) (by_side s cap h.slot.0 k side) (Err FailedOrdRequirement)
-    (λ e. side_in_lem s cap h.slot.0 k (live-low s cap h (is_live s cap h) refl e) side) (λ e. tt)
+    (λ e. side_in_lem s cap h.slot.0 k (live_low s cap h (is_live s cap h) refl e) side) (λ e. tt)
 
 -- placing keeps what an insertion keeps
 module _ (cap : ℕ) (key : ℤ) (value : ℕ) where
@@ -110,9 +110,9 @@ module _ (cap : ℕ) (key : ℤ) (value : ℕ) where
     unfolding hung_below
     below-within s i hi = only_trans (hung-within s i hi) (only_weaken (λ j g hj x e. omega arith) (λ h x. omega arith) (rebalanced-only _ cap i p hi hp))
 
-    as_within : (s t : List ℕ) (h : Handle) (b : Bool) → Within s t cap → Within s (hung_as h t b).0 cap
-    as_within s t h true w = w
-    as_within s t h false w = w
+    as_within : (s t : List ℕ) (h : Handle) (b : Result ⊤ Refusal) → Within s t cap → Within s (hung_as h t b).0 cap
+    as_within s t h (Ok u) w = w
+    as_within s t h (Err n) w = w
 
     beside_as_within : (s t : List ℕ) (r : Result Handle Refusal) → Within s t cap → TakenIn cap r → Within s (beside_as cap p d key value t r).0 cap
     beside_as_within s t (Ok h) w i =

@@ -12,6 +12,7 @@ use arena::{keys, slots};
 use handle::{Ahead, Handle, Key, Refusal, Side};
 
 // A new entry: the slot that would be taken.
+#[tactic(auto, unfolding(crate::specs::inner::Ahead::next_new))]
 fn next_new(s: &[u64], cap: u64) -> Result<Ahead, Refusal>
     requires { Room s.now cap }
     ensures { result ≡ next_new s.now cap }
@@ -32,6 +33,7 @@ pub fn look_ahead(s: &[u64], cap: u64, p: Prepared) -> Result<Ahead, Refusal>
     }
 }
 
+#[tactic(auto, unfolding(crate::specs::inner::Ahead::ahead_normal))]
 pub fn ahead_normal(s: &[u64], cap: u64, key: Key) -> Result<Ahead, Refusal>
     requires { Room s.now cap }
     ensures { result ≡ ahead_normal s.now cap key.0 }
@@ -41,6 +43,7 @@ pub fn ahead_normal(s: &[u64], cap: u64, key: Key) -> Result<Ahead, Refusal>
     look_ahead(s, cap, p)
 }
 
+#[tactic(auto, unfolding(crate::specs::inner::Ahead::ahead_empty))]
 pub fn ahead_empty(s: &[u64], cap: u64) -> Result<Ahead, Refusal>
     requires { Room s.now cap }
     ensures { result ≡ ahead_empty s.now cap }
@@ -49,6 +52,7 @@ pub fn ahead_empty(s: &[u64], cap: u64) -> Result<Ahead, Refusal>
     look_ahead(s, cap, p)
 }
 
+#[tactic(auto, unfolding(crate::specs::inner::Ahead::ahead_manual))]
 pub fn ahead_manual(s: &[u64], cap: u64, h: Handle, side: Side, key: Key) -> Result<Ahead, Refusal>
     requires { Room s.now cap }
     ensures { result ≡ ahead_manual s.now cap h side key.0 }

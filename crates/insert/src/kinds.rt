@@ -22,6 +22,7 @@ pub enum Prepared {
 }
 
 // Normal: the search's answer for the stored key k.
+#[tactic(auto, unfolding(crate::specs::inner::Kinds::prepared_normal))]
 pub fn prepare_normal(s: &[u64], cap: u64, k: u64) -> Result<Prepared, Refusal>
     requires { Room s.now cap }
     ensures value { result ≡ prepared_normal s.now cap k }
@@ -35,6 +36,7 @@ pub fn prepare_normal(s: &[u64], cap: u64, k: u64) -> Result<Prepared, Refusal>
 }
 
 // "Empty: only into an empty queue."
+#[tactic(auto, unfolding(crate::specs::inner::Kinds::prepared_empty))]
 pub fn prepare_empty(s: &[u64], cap: u64) -> Result<Prepared, Refusal>
     requires { Room s.now cap }
     ensures value { result ≡ prepared_empty s.now }
@@ -47,6 +49,7 @@ pub fn prepare_empty(s: &[u64], cap: u64) -> Result<Prepared, Refusal>
 }
 
 // Whether a lies strictly on the side d of b.
+#[tactic(auto, unfolding(crate::specs::inner::Kinds::lies_on))]
 fn lies(d: u64, a: u64, b: u64) -> bool
     ensures { result ≡ lies_on d a b }
 {
@@ -57,6 +60,7 @@ fn lies(d: u64, a: u64, b: u64) -> bool
 }
 
 // Manual, Equal: the key must be the target's.
+#[tactic(auto, unfolding(crate::specs::inner::Kinds::prepared_equal))]
 fn prepare_equal(s: &[u64], cap: u64, i: u64, k: u64) -> Result<Prepared, Refusal>
     requires room { Room s.now cap }
     requires i_lt_cap { i < cap }
@@ -71,6 +75,7 @@ fn prepare_equal(s: &[u64], cap: u64, i: u64, k: u64) -> Result<Prepared, Refusa
 
 // "Less: if the target has a left child, the new entry becomes the right child of its prev, else the target's left child. Greater
 // mirrors this." The target's neighbour on the side d is q.
+#[tactic(auto, unfolding(crate::specs::inner::Kinds::place_beside))]
 fn place_beside(s: &[u64], cap: u64, i: u64, d: u64, q: u64) -> Result<Prepared, Refusal>
     requires room { Room s.now cap }
     requires i_lt_cap { i < cap }
@@ -88,6 +93,7 @@ fn place_beside(s: &[u64], cap: u64, i: u64, d: u64, q: u64) -> Result<Prepared,
 }
 
 // Manual, Less or Greater: "the key must lie strictly between the target's and its chain neighbour's on that side (if there is one)".
+#[tactic(auto, unfolding(crate::specs::inner::Kinds::prepared_beside, crate::specs::inner::Kinds::beside_next))]
 fn prepare_beside(s: &[u64], cap: u64, i: u64, d: u64, k: u64) -> Result<Prepared, Refusal>
     requires room { Room s.now cap }
     requires i_lt_cap { i < cap }
@@ -114,6 +120,7 @@ fn prepare_beside(s: &[u64], cap: u64, i: u64, d: u64, k: u64) -> Result<Prepare
 }
 
 // Manual: a live handle and a side of it.
+#[tactic(auto, using(arena::proofs::SlotReads::live_low), unfolding(crate::specs::inner::Kinds::prepared_manual))]
 pub fn prepare_manual(s: &[u64], cap: u64, h: Handle, side: Side, k: u64) -> Result<Prepared, Refusal>
     requires { Room s.now cap }
     ensures value { result ≡ prepared_manual s.now cap h side k }

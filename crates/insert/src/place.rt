@@ -15,6 +15,7 @@ use raise::ranks;
 use tree::Node;
 
 // The slot i becomes the whole queue: an entry of rank 1 with no neighbour.
+#[tactic(auto, unfolding(crate::specs::inner::Place::stand_alone))]
 fn stand_alone(s: &mut [u64], cap: u64, i: u64, key: Key, value: u64)
     requires room { Room s.old cap }
     requires i_lt_cap { i < cap }
@@ -32,6 +33,7 @@ fn stand_alone(s: &mut [u64], cap: u64, i: u64, key: Key, value: u64)
     words::put_head(s, ROOT, i);
 }
 
+#[tactic(auto, unfolding(crate::specs::inner::Place::placed_alone))]
 fn place_alone(s: &mut [u64], cap: u64, key: Key, value: u64) -> Result<Inserted, Refusal>
     requires { Room s.old cap }
     ensures { (s.new, result) ≡ placed_alone s.old cap key.0 value }
@@ -43,6 +45,7 @@ fn place_alone(s: &mut [u64], cap: u64, key: Key, value: u64) -> Result<Inserted
 }
 
 // The slot i becomes the child of p on the side d: an entry of rank 1, beside p in the chain. Then the ranks are put right.
+#[tactic(auto, unfolding(crate::specs::inner::Place::hung_below, crate::specs::inner::Place::hung))]
 fn hang_below(s: &mut [u64], cap: u64, i: u64, p: u64, d: u64, key: Key, value: u64) -> Result<(), Refusal>
     requires room { Room s.old cap }
     requires i_lt_cap { i < cap }
@@ -63,6 +66,7 @@ fn hang_below(s: &mut [u64], cap: u64, i: u64, p: u64, d: u64, key: Key, value: 
     ranks::rebalance(s, cap, i, p)
 }
 
+#[tactic(auto, unfolding(crate::specs::inner::Place::placed_beside))]
 fn place_beside(s: &mut [u64], cap: u64, p: u64, d: u64, key: Key, value: u64) -> Result<Inserted, Refusal>
     requires room { Room s.old cap }
     requires p_lt_cap { p < cap }
@@ -76,6 +80,7 @@ fn place_beside(s: &mut [u64], cap: u64, p: u64, d: u64, key: Key, value: u64) -
 }
 
 // "Equal: the value is replaced, the old one returned, the handle kept, no slot used."
+#[tactic(auto, unfolding(crate::specs::inner::Place::value_replaced))]
 fn replace(s: &mut [u64], cap: u64, i: u64, value: u64) -> Result<Inserted, Refusal>
     requires room { Room s.old cap }
     requires i_lt_cap { i < cap }
@@ -100,6 +105,7 @@ pub fn apply(s: &mut [u64], cap: u64, p: Prepared, key: Key, value: u64) -> Resu
     }
 }
 
+#[tactic(auto, unfolding(crate::specs::inner::Place::normal_inserted))]
 pub fn insert_normal(s: &mut [u64], cap: u64, key: Key, value: u64) -> Result<Inserted, Refusal>
     requires { Room s.old cap }
     ensures { (s.new, result) ≡ normal_inserted s.old cap key.0 value }
@@ -109,6 +115,7 @@ pub fn insert_normal(s: &mut [u64], cap: u64, key: Key, value: u64) -> Result<In
     apply(s, cap, p, key, value)
 }
 
+#[tactic(auto, unfolding(crate::specs::inner::Place::empty_inserted))]
 pub fn insert_empty(s: &mut [u64], cap: u64, key: Key, value: u64) -> Result<Inserted, Refusal>
     requires { Room s.old cap }
     ensures { (s.new, result) ≡ empty_inserted s.old cap key.0 value }
@@ -117,6 +124,7 @@ pub fn insert_empty(s: &mut [u64], cap: u64, key: Key, value: u64) -> Result<Ins
     apply(s, cap, p, key, value)
 }
 
+#[tactic(auto, unfolding(crate::specs::inner::Place::manual_inserted))]
 pub fn insert_manual(
     s: &mut [u64],
     cap: u64,

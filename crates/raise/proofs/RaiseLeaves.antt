@@ -1,6 +1,6 @@
 -- What rebalancing leaves alone, for proofs on sound stores and for the promises on any store: all but the tree.
 use Prim.Native.Nat.{ℕ, zero, suc, ◌+◌, ◌<◌, ◌≤◌}
-use mathlib.Core.Bool.{true}
+use mathlib.Core.Path.{refl}
 use mathlib.Core.List.{List}
 use native.Mathlib.Omega.{arith}
 use lib.Dec.{ltb, leb, eqb}
@@ -11,13 +11,15 @@ use Rattle.arena.proofs.Paths.{either}
 use Rattle.arena.proofs.Only.{only_none, only_trans, only-put}
 use Rattle.tree.specs.inner.Links.{side_of_child}
 use Rattle.tree.specs.inner.Kept.{TreeOnly}
-use Rattle.tree.proofs.Climb.{Turned, turned-done, turned_bad, Settled, on_only}
+use Rattle.tree.proofs.Climb.{Turned, turned-done, turned_bad, Plain, Plainly, on_plain, Settled, on_only}
 use Rattle.raise.specs.inner.Restructures.{lifted_one, turned_same, spread_below, turned_across}
 use Rattle.raise.specs.declared.turns.Turn.{Turn}
 use Rattle.raise.specs.inner.Ranks.{above, raised_up, fix_with, fix_turn, raise_from, climbed_to, climbed_above, rebalanced}
 use Rattle.tree.proofs.Keeps.{side-small, back-only, relinked-only, node-only, spread-only}
+use Rattle.handle.specs.declared.Refusal.TheVariants.{NotSound}
+use Rattle.tree.specs.declared.Climbed.{Climbed}
 use Rattle.tree.specs.declared.Climbed.TheVariants.{Done, Up}
-use Rattle.std.specs.Prelude.{Ok}
+use Rattle.std.specs.Prelude.{Ok, Err}
 
 module _ (s : List ℕ) (cap d : ℕ) (t : Turn) (h0 : t.n0 < cap) (h1 : t.n1 < cap) (h2 : t.n2 < cap) (hd : d ≤ 1) where
   pub same-only : TreeOnly s (turned_same s cap d t) cap
@@ -55,6 +57,48 @@ module _ (s : List ℕ) (cap d01 d12 : ℕ) (t : Turn) (h0 : t.n0 < cap) (h1 : t
 pub fix_only : (s : List ℕ) (cap p0 p1 p2 d01 d12 : ℕ) → p0 < cap → p1 < cap → p2 < cap → d01 ≤ 1 → d12 ≤ 1 → Turned s cap (fix_turn s cap p0 p1 p2 d01 d12)
 unfolding fix_turn
 fix_only s cap p0 p1 p2 d01 d12 h0 h1 h2 e1 e2 = with_only s cap d01 d12 _ h0 h1 h2 e1 e2 _ _ _
+
+-- what refuses is no sound store, whatever the words
+plain_done : (s : List ℕ) → Plainly {A = Climbed} (s, Ok Done)
+plain_done s = record { plain = tt }
+
+plain_bad : (s : List ℕ) → Plainly {A = Climbed} (s, Err NotSound)
+plain_bad s = record { plain = refl }
+
+raised-plain : (s : List ℕ) (cap p2 p3 r1 : ℕ) → Plainly (raised_up s cap p2 p3 r1)
+unfolding raised_up above
+raised-plain s cap p2 p3 r1 = either Plainly (ltb p3 cap) _ _ (λ e. record { plain = tt }) (λ e. plain_done _)
+
+plain_with : (s : List ℕ) (cap d01 d12 : ℕ) (t : Turn) (r1 r2 rs1 : ℕ) → Plainly (fix_with s cap d01 d12 t r1 r2 rs1)
+unfolding fix_with
+plain_with s cap d01 d12 t r1 r2 rs1 =
+    either Plainly (ltb r1 r2) _ _ (λ e. plain_done _)
+    (λ e. either Plainly (leb budget r1) _ _ (λ f. plain_bad _)
+    (λ f. either Plainly (leb budget rs1) _ _ (λ g. plain_bad _)
+    (λ g. either Plainly (eqb (rs1 + 1) r2) _ _ (λ h. raised-plain s cap t.n2 t.n3 r1)
+    (λ h. either Plainly (eqb d01 d12) _ _ (λ k. plain_done _) (λ k. plain_done _)))))
+
+fix_plain : (s : List ℕ) (cap p0 p1 p2 d01 d12 : ℕ) → Plainly (fix_turn s cap p0 p1 p2 d01 d12)
+unfolding fix_turn
+fix_plain s cap p0 p1 p2 d01 d12 = plain_with s cap d01 d12 _ _ _ _
+
+climb_plain : (fuel : ℕ) (s : List ℕ) (cap p0 p1 p2 d01 d12 : ℕ) → Plain (raise_from fuel s cap p0 p1 p2 d01 d12).1
+unfolding raise_from
+climb_plain zero s cap p0 p1 p2 d01 d12 = refl
+climb_plain (suc fuel) s cap p0 p1 p2 d01 d12 =
+    let x = fix_turn s cap p0 p1 p2 d01 d12 in
+    let f = fix_plain s cap p0 p1 p2 d01 d12 in
+    on_plain x.0 x.1 _ f.plain (λ p3 d. climb_plain fuel x.0 cap p1 p2 p3 d12 d)
+
+above-plain : (s : List ℕ) (cap p0 p1 : ℕ) → Plainly (climbed_above s cap p0 p1)
+unfolding climbed_above climbed_to
+above-plain s cap p0 p1 =
+    let p2 = field s cap p1 BACK in
+    either Plainly (leb cap p2) _ _ (λ f. record { plain = tt }) (λ f. record { plain = climb_plain budget s cap p0 p1 p2 _ _ })
+
+pub rebalanced-plain : (s : List ℕ) (cap p0 p1 : ℕ) → Plainly (rebalanced s cap p0 p1)
+unfolding rebalanced
+rebalanced-plain s cap p0 p1 = either Plainly (eqb (field s cap p1 RANK) 2) _ _ (λ e. record { plain = tt }) (λ e. above-plain _ cap p0 p1)
 
 pub climb_only : (fuel : ℕ) (s : List ℕ) (cap p0 p1 p2 d01 d12 : ℕ) → p0 < cap → p1 < cap → p2 < cap → d01 ≤ 1 → d12 ≤ 1
     → TreeOnly s (raise_from fuel s cap p0 p1 p2 d01 d12).0 cap

@@ -28,7 +28,7 @@ use Rattle.remove.specs.inner.Take.{is_childless, settle_bare, settle_at, replac
 use Rattle.remove.specs.inner.Remove.{let_go, remove_live, remove_by}
 use Rattle.remove.specs.inner.Kept.{OthersKept}
 use Rattle.remove.specs.declared.lifting.Lifted.{Lifted}
-use Rattle.remove.proofs.RemoveReads.{live-low}
+use Rattle.arena.proofs.SlotReads.{live_low}
 use Rattle.arena.specs.declared.slots.Freed.{Freed}
 use Rattle.handle.specs.declared.Removed.{Removed}
 use Rattle.handle.specs.declared.Removed as D
@@ -124,7 +124,7 @@ module _ (s : List ℕ) (cap : ℕ) (h : Handle) where
   pub remove-kept : RemovedWell s cap h.slot.0 (remove_by s cap h)
   unfolding remove_by
   remove-kept =
-      either (RemovedWell s cap h.slot.0) (is_live s cap h) _ _ (λ e. live-kept s cap h.slot.0 (live-low s cap h true (sym e) refl))
+      either (RemovedWell s cap h.slot.0) (is_live s cap h) _ _ (λ e. live-kept s cap h.slot.0 (live_low s cap h true (sym e) refl))
       (λ e. only_none)
 
   -- "Each refusal returns its number alone and changes nothing."

@@ -29,6 +29,20 @@ turned-done s t cap o = (o, tt)
 pub turned_bad : (s : List ℕ) (cap : ℕ) → Turned s cap (s, Err NotSound)
 turned_bad s cap = (only_none, tt)
 
+-- a refusal that is no other than NotSound
+abbrev pub Plain : {A : Type 0} → Result A Refusal → Type 0
+Plain (Ok x) = Unit {0}
+Plain (Err n) = n ≡ NotSound
+
+pub record Plainly {A : Type 0} (x : List ℕ × Result A Refusal) : Type 0 where
+  pub plain : Plain x.1
+
+pub on_plain : (s : List ℕ) (a : Result Climbed Refusal) (go : ℕ → ℕ → List ℕ × Result ⊤ Refusal) → Plain a → ((p d : ℕ) → Plain (go p d).1)
+    → Plain (on_climbed a go s).1
+on_plain s (Ok (Up p d)) go i f = f p d
+on_plain s (Ok Done) go i f = tt
+on_plain s (Err n) go i f = i
+
 -- a whole climb touches the tree alone
 abbrev pub Settled : List ℕ → ℕ → List ℕ × Result ⊤ Refusal → Type 0
 Settled s cap x = TreeOnly s x.0 cap
