@@ -41,7 +41,7 @@ use Rattle.queue_of_store.proofs.Chains.{slot_of}
 use Rattle.insert_means.specs.Meaning.{side_means}
 use Rattle.insert_means.proofs.Plans.{add, swap, fail, planned, Prepares}
 use Rattle.insert_means.proofs.Neighbours.{end_slot, end_has, gap-tip, gap-planned, neighbour_end, neighbour-link, neighbour_in}
-use Rattle.std.specs.Prelude.{Err, Option}
+use Rattle.std.specs.Prelude.{Err}
 use Rattle.handle.specs.declared.Refusal.TheVariants.{FailedOrdRequirement}
 
 -- the test of two keys, over the side

@@ -30,7 +30,7 @@ use Rattle.queue_of_store.specs.Handles.{plain}
 use Rattle.queue_of_store.specs.inner.Meanings.{step_means}
 use Rattle.queue_of_store.proofs.Parts.{sound_of, words_of, few-slots, separate_of, live-low}
 use Rattle.queue_of_store.proofs.Live.{live-entry}
-use Rattle.std.specs.Prelude.{Ok, Option, Some}
+use Rattle.std.specs.Prelude.{Ok, Some}
 
 -- the slot of an end, if there is one
 abbrev pub slot_of : Option Entry → ℕ

@@ -30,7 +30,8 @@ use Rattle.queue_of_store.specs.inner.Meanings.{in_slots, side_no, found_means}
 use Rattle.queue_of_store.proofs.Parts.{sound_of, words_of, few-slots, size_few, under_budget}
 use Rattle.queue_of_store.proofs.Live.{live-entry}
 use Rattle.find.specs.declared.Found as F
-use Rattle.std.specs.Prelude.{Ok}
+use Rattle.std.specs.Prelude.{Result, Ok}
+use Rattle.handle.specs.declared.Refusal.{Refusal}
 
 module _ (s : List ℕ) (cap k : ℕ) (few : cap ≤ no_slot) where
   top-low : (t : Tree) (back : ℕ) → Links s cap back t → IsFork t → top_slot t < cap
@@ -67,7 +68,7 @@ module _ (s : List ℕ) (cap k : ℕ) (few : cap ≤ no_slot) where
       (λ z. below fuel n right b e r a w low key (λ y. omega arith) (side-greater k e.key (omega arith)) l.0.far-is (top-low b e.slot l.2) h
       (λ f. seek-tree b e.slot fuel (n + 1) (step right e r a ∷ w) f l.2 vb.1 x.1 (omega arith) (omega arith)))
     where
-      count : Ok (F.TheVariants.Equal e.slot (n + 1)) ≡ Ok (F.TheVariants.Equal e.slot (suc (length w)))
+      count : ◌≡◌ {A = Result F.Found Refusal} (Ok (F.TheVariants.Equal e.slot (n + 1))) (Ok (F.TheVariants.Equal e.slot (suc (length w))))
       count = let c : n + 1 ≡ suc (length w) = omega arith in ap (λ z. Ok (F.TheVariants.Equal e.slot z)) c
 
   -- from the root, with the budget

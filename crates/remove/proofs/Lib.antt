@@ -1,4 +1,1 @@
-pub mod LiftReads
-pub mod TakeReads
-pub mod RemoveReads
 pub mod RemoveLeaves

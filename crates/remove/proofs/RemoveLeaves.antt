@@ -25,15 +25,16 @@ use Rattle.tree.proofs.Climb.{Settled, on_only}
 use Rattle.lower.proofs.LowerLeaves.{lower_only, climb_only}
 use Rattle.remove.specs.inner.Lift.{side_under, hung_up, lift_with, lift_out, stands_in, node_replaced}
 use Rattle.remove.specs.inner.Take.{is_childless, settle_bare, settle_at, replacement_of, filled_from, filled_by, closed_from, take_over, take_out}
-use Rattle.remove.specs.inner.Remove.{let_go, remove_live, remove_by}
+use Rattle.remove.specs.inner.Remove.{let_go, gone_as, remove_live, remove_by}
 use Rattle.remove.specs.inner.Kept.{OthersKept}
 use Rattle.remove.specs.declared.lifting.Lifted.{Lifted}
 use Rattle.arena.proofs.SlotReads.{live_low}
 use Rattle.arena.specs.declared.slots.Freed.{Freed}
 use Rattle.handle.specs.declared.Removed.{Removed}
 use Rattle.handle.specs.declared.Removed as D
-use Rattle.std.specs.Prelude.{Result, Err}
+use Rattle.std.specs.Prelude.{Result, Ok, Err, ⊤}
 use Rattle.handle.specs.declared.Refusal.{Refusal}
+use Rattle.handle.specs.declared.Entry.{Entry}
 
 -- what was lifted touches the tree alone, and hung on a side
 abbrev pub LiftedWell : List ℕ → ℕ → List ℕ × Lifted → Type 0
@@ -113,12 +114,17 @@ unfolding let_go unlink_slot
 let_go-kept s cap i hi =
     only_trans (joined-only s cap _ _ (λ l n. omega arith) (λ l n. omega arith) (λ l. omega arith) (λ l. omega arith)) (free-kept _ cap i hi)
 
+gone-kept : (s t : List ℕ) (r : Result ⊤ Refusal) (cap i : ℕ) (x : Entry) → OthersKept s t cap i → OthersKept s (let_go t cap i).0 cap i
+    → RemovedWell s cap i (gone_as t r cap i x)
+gone-kept s t (Ok u) cap i x o f = f
+gone-kept s t (Err n) cap i x o f = o
+
 pub live-kept : (s : List ℕ) (cap i : ℕ) → i < cap → RemovedWell s cap i (remove_live s cap i)
 unfolding remove_live
 live-kept s cap i hi =
     let x = take_out s cap i in
     let o : OthersKept s x.0 cap i = only_weaken (λ j g hj z n. omega arith) (λ h z. omega arith) (take-only s cap i) in
-    either (RemovedWell s cap i) x.1 _ _ (λ e. only_trans o (let_go-kept x.0 cap i hi)) (λ e. o)
+    gone-kept s x.0 x.1 cap i _ o (only_trans o (let_go-kept x.0 cap i hi))
 
 module _ (s : List ℕ) (cap : ℕ) (h : Handle) where
   pub remove-kept : RemovedWell s cap h.slot.0 (remove_by s cap h)

@@ -18,6 +18,7 @@ pub struct Lifted {
 }
 
 // The child of m, which has at most one: the left one if there is one, else what stands on the right.
+#[tactic(auto, unfolding(crate::specs::inner::Lift::only_child))]
 fn only_child(s: &[u64], cap: u64, m: u64) -> u64
     requires room { Room s.now cap }
     requires m_lt_cap { m < cap }
@@ -31,6 +32,7 @@ fn only_child(s: &[u64], cap: u64, m: u64) -> u64
 }
 
 // The side on which m hangs under q; a root hangs on the left of nothing.
+#[tactic(auto, unfolding(crate::specs::inner::Lift::side_under))]
 fn side_under(s: &[u64], cap: u64, q: u64, m: u64) -> u64
     requires { Room s.now cap }
     ensures value { result ≡ side_under s.now cap q m }
@@ -43,6 +45,7 @@ fn side_under(s: &[u64], cap: u64, q: u64, m: u64) -> u64
 }
 
 // The child of m comes to hang where m hung; where m was the root, the child or no slot becomes the root.
+#[tactic(auto, unfolding(crate::specs::inner::Lift::lift_out, crate::specs::inner::Lift::lift_with, crate::specs::inner::Lift::hung_up))]
 pub fn lift(s: &mut [u64], cap: u64, m: u64) -> Lifted
     requires room { Room s.old cap }
     requires m_lt_cap { m < cap }
@@ -58,6 +61,7 @@ pub fn lift(s: &mut [u64], cap: u64, m: u64) -> Lifted
 }
 
 // m stands where i stood, as the node n, whose near child is the left one.
+#[tactic(auto, unfolding(crate::specs::inner::Lift::stands_in))]
 fn stand(s: &mut [u64], cap: u64, i: u64, m: u64, n: Node)
     requires room { Room s.old cap }
     requires m_lt_cap { m < cap }
@@ -70,6 +74,7 @@ fn stand(s: &mut [u64], cap: u64, i: u64, m: u64, n: Node)
 }
 
 // "the replacement takes its rank and place"
+#[tactic(auto, unfolding(crate::specs::inner::Lift::node_replaced))]
 pub fn replace(s: &mut [u64], cap: u64, i: u64, m: u64)
     requires room { Room s.old cap }
     requires i_lt_cap { i < cap }

@@ -8,6 +8,7 @@ use arena::entries;
 use handle::{Entry, Handle, Refusal};
 
 // The entry that h names.
+#[tactic(auto, using(arena::proofs::SlotReads::live_low), unfolding(crate::specs::inner::Remove::read_by))]
 pub fn read(s: &[u64], cap: u64, h: Handle) -> Result<Entry, Refusal>
     requires { Room s.now cap }
     ensures { result ≡ read_by s.now cap h }

@@ -11,6 +11,7 @@ use arena::{entries, slots};
 use handle::{Handle, Refusal, Removed};
 
 // The slot i leaves the chain and is freed.
+#[tactic(auto, unfolding(crate::specs::inner::Remove::let_go))]
 fn let_go(s: &mut [u64], cap: u64, i: u64) -> Result<Freed, Refusal>
     requires room { Room s.old cap }
     requires i_lt_cap { i < cap }
@@ -21,6 +22,7 @@ fn let_go(s: &mut [u64], cap: u64, i: u64) -> Result<Freed, Refusal>
 }
 
 // Removes the live entry in the slot i. It is read before it is moved.
+#[tactic(auto, unfolding(crate::specs::inner::Remove::remove_live))]
 fn remove_live(s: &mut [u64], cap: u64, i: u64) -> Result<Removed, Refusal>
     requires room { Room s.old cap }
     requires i_lt_cap { i < cap }
@@ -35,6 +37,7 @@ fn remove_live(s: &mut [u64], cap: u64, i: u64) -> Result<Removed, Refusal>
 }
 
 // Removes the entry that h names.
+#[tactic(auto, using(arena::proofs::SlotReads::live_low), unfolding(crate::specs::inner::Remove::remove_by))]
 pub fn remove(s: &mut [u64], cap: u64, h: Handle) -> Result<Removed, Refusal>
     requires { Room s.old cap }
     ensures { (s.new, result) ≡ remove_by s.old cap h }

@@ -13,6 +13,7 @@ use lower::climbing;
 use tree::Climbed;
 
 // Whether the node i has no child.
+#[tactic(auto, unfolding(crate::specs::inner::Take::is_childless))]
 fn childless(s: &[u64], cap: u64, i: u64) -> bool
     requires room { Room s.now cap }
     requires i_lt_cap { i < cap }
@@ -25,6 +26,7 @@ fn childless(s: &[u64], cap: u64, i: u64) -> bool
 }
 
 // "If that parent is left childless it gets rank 1 and the climb goes one up."
+#[tactic(auto, using(tree::proofs::Climb::up_low, tree::proofs::Climb::up_side), unfolding(crate::specs::inner::Take::settle_bare))]
 fn settle_bare(s: &mut [u64], cap: u64, q: u64) -> Result<(), Refusal>
     requires room { Room s.old cap }
     requires q_lt_cap { q < cap }
@@ -37,6 +39,7 @@ fn settle_bare(s: &mut [u64], cap: u64, q: u64) -> Result<(), Refusal>
 }
 
 // The ranks from q on, whose child on the side e lost a node; nothing to do where there is no node above.
+#[tactic(auto, unfolding(crate::specs::inner::Take::settle_at))]
 fn settle(s: &mut [u64], cap: u64, q: u64, e: u64) -> Result<(), Refusal>
     requires room { Room s.old cap }
     requires e_bound { e ≤ 1 }
@@ -53,6 +56,7 @@ fn settle(s: &mut [u64], cap: u64, q: u64, e: u64) -> Result<(), Refusal>
 
 // What replaces the node i, which has a child: its chain prev, or its next where it has no left child. On a sound store that is document
 // 01's choice: a node with no left child has rank 2, and its prev, if it has one, stands above it.
+#[tactic(auto, unfolding(crate::specs::inner::Take::replacement_of))]
 fn replacement(s: &[u64], cap: u64, i: u64) -> u64
     requires room { Room s.now cap }
     requires i_lt_cap { i < cap }
@@ -65,6 +69,7 @@ fn replacement(s: &[u64], cap: u64, i: u64) -> u64
 }
 
 // m leaves its place and takes i's; where it hung under i, the ranks are mended from m on.
+#[tactic(auto, unfolding(crate::specs::inner::Take::filled_by, crate::specs::inner::Take::filled_from))]
 fn fill(s: &mut [u64], cap: u64, i: u64, m: u64) -> Result<(), Refusal>
     requires room { Room s.old cap }
     requires i_lt_cap { i < cap }
@@ -80,6 +85,7 @@ fn fill(s: &mut [u64], cap: u64, i: u64, m: u64) -> Result<(), Refusal>
 }
 
 // The node i leaves the tree.
+#[tactic(auto, unfolding(crate::specs::inner::Take::take_out, crate::specs::inner::Take::closed_from, crate::specs::inner::Take::take_over))]
 pub fn take_out(s: &mut [u64], cap: u64, i: u64) -> Result<(), Refusal>
     requires room { Room s.old cap }
     requires i_lt_cap { i < cap }

@@ -13,11 +13,11 @@ use Rattle.handle.specs.declared.Refusal.TheVariants.{NotSound}
 use Rattle.handle.specs.declared.Refusal.{Refusal}
 
 module _ (cap : ℕ) (a : Result Climbed Refusal) (p d : ℕ) (e : a ≡ Ok (Up p d)) (h : Standing cap a) where
-  pub up-low : p < cap
-  up-low = (rw e at h).0
+  pub up_low : p < cap
+  up_low = (rw e at h).0
 
-  pub up-side : d ≤ 1
-  up-side = (rw e at h).1
+  pub up_side : d ≤ 1
+  up_side = (rw e at h).1
 
 -- a turn touches the tree alone, and its answer can be used
 abbrev pub Turned : List ℕ → ℕ → List ℕ × (Result Climbed Refusal) → Type 0

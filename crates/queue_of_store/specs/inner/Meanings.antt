@@ -11,7 +11,7 @@ use Rattle.queue_of_store.specs.Ends.{number}
 use Rattle.queue_of_store.specs.Handles.{plain}
 use Rattle.find.specs.declared.Found as F
 use Rattle.handle.specs.declared.Refusal.{Refusal}
-use Rattle.handle.specs.declared.Handle.{Handle}
+use Rattle.handle.specs.declared.Handle as H
 
 -- the search of crate `wavl` in slots and numbers of sides
 abbrev pub in_slots : Search.Found → Result F.Found Refusal
@@ -34,7 +34,7 @@ found_means s cap (Ok (F.TheVariants.Beside p d n)) = beside (handle_in_slot s c
 found_means s cap (Ok F.TheVariants.Empty) = no_entry 0
 found_means s cap (Err n) = not_found not_sound
 
-abbrev pub step_means : (Result (Option Handle) Refusal) → Stepped
+abbrev pub step_means : (Result (Option H.Handle) Refusal) → Stepped
 step_means (Ok (Some h)) = stands (plain h)
 step_means (Ok None) = at_end
 step_means (Err n) = not_stepped not_sound

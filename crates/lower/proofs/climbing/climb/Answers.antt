@@ -4,7 +4,7 @@ use Rattle.std.proofs.Common.{rules}
 use Rattle.std.proofs.lemmas.Result.{err_from_is_err_and}
 use Rattle.std.specs.Prelude.{Ok}
 use Rattle.arena.specs.inner.Budget.{budget}
-use Rattle.tree.proofs.Climb.{up-low, up-side}
+use Rattle.tree.proofs.Climb.{up_low, up_side}
 use Rattle.lower.proofs.ClimbLoop.{again, ended, refused, spent}
 use Rattle.lower.proofs.climbing.climb.Goals as goal
 
@@ -17,7 +17,7 @@ climb_turn-requires c = omega arith
 
 pub loop-preserved : goal.loop-preserved
 unfolding budget
-loop-preserved c = let e = c.in_ok-p2.was ∙ ap Ok c.in-Up.is in (search up-low, search up-side, search again)
+loop-preserved c = let e = c.in_ok-p2.was ∙ ap Ok c.in-Up.is in (search up_low, search up_side, search again)
 
 pub returns-in_err-p2 : goal.returns-in_err-p2
 unfolding budget

@@ -4,7 +4,7 @@ use Rattle.std.proofs.Common.{rules}
 use Rattle.std.proofs.lemmas.Result.{err_from_is_err_and}
 use Rattle.std.specs.Prelude.{Ok}
 use Rattle.arena.specs.inner.Budget.{budget}
-use Rattle.tree.proofs.Climb.{up-low, up-side}
+use Rattle.tree.proofs.Climb.{up_low, up_side}
 use Rattle.raise.proofs.Climbs.{again, ended, refused, spent}
 use Rattle.raise.proofs.ranks.climb.Goals as goal
 
@@ -17,7 +17,7 @@ fix_turn-requires c = omega arith
 
 pub loop-preserved : goal.loop-preserved
 unfolding budget
-loop-preserved c = let e = c.in_ok-p3.was ∙ ap Ok c.in-Up.is in (omega arith, omega arith, search up-low, omega arith, search up-side, search again)
+loop-preserved c = let e = c.in_ok-p3.was ∙ ap Ok c.in-Up.is in (omega arith, omega arith, search up_low, omega arith, search up_side, search again)
 
 pub returns-in_err-p3 : goal.returns-in_err-p3
 unfolding budget
