@@ -1,4 +1,3 @@
-pub mod TestReads
 pub mod CheckTurns
 pub mod Choices
 pub mod NodeFacts

@@ -8,7 +8,6 @@ ghost use Rattle.arena.specs.Words.{Long, Room};
 ghost use Rattle.sound.specs.inner.Check.{top_test, unused_test, rules_test};
 ghost use Rattle.sound.specs.Decides.{Decides};
 
-use arena::header::Header;
 use arena::words::{HEIGHT, TOP};
 use arena::{header, words};
 use handle::TOP_LIMIT;
@@ -37,9 +36,7 @@ fn unused(s: &[u64]) -> bool
     requires { Long s.now 0 }
     ensures { result ≡ unused_test 10 s.now }
 {
-    let mut k: u64 = 10;
-    while 0 < k {
-        k -= 1;
+    for k in (0..10).rev() {
         if words::head(s, 6 + k) != 0 {
             return false;
         }
@@ -74,12 +71,8 @@ fn good_rules(s: &[u64], cap: u64) -> bool
 pub fn sound(s: &[u64]) -> bool
     ensures { Decides s.now result }
 {
-    match header::test(s) {
-        Header::Passes(cap) => {
-            return good_rules(s, cap);
-        }
-        Header::Fails => {
-            return false;
-        }
-    }
+    let Ok(cap) = header::test(s) else {
+        return false;
+    };
+    good_rules(s, cap)
 }

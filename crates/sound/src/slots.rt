@@ -150,9 +150,7 @@ pub fn good_slots(s: &[u64], cap: u64, top: u64, h: u64) -> bool
     requires h_le_cap { h ≤ cap }
     ensures { result ≡ slots_test cap s.now cap top h }
 {
-    let mut i: u64 = cap;
-    while 0 < i {
-        i -= 1;
+    for i in (0..cap).rev() {
         if !good_slot(s, cap, top, h, i) {
             return false;
         }

@@ -10,40 +10,28 @@ use arena::words;
 use arena::words::{BUDGET, LEFT, RIGHT, ROOT};
 use handle::Handle;
 
-// What a walk comes to: the slot met last, or that a test failed.
-#[derive(Drop)]
-pub enum Walked {
-    To(u64),
-    Broken,
-}
-
-// Walks what hangs at the link p below the slot `back`, after the slot q. n more levels may be entered.
-fn walk(s: &[u64], cap: u64, top: u64, n: u64, back: u64, p: u64, q: u64) -> Walked
+// Walks what hangs at the link p below the slot `back`, after the slot q. n more levels may be entered. The answer is the slot met last,
+// or none where a test failed.
+fn walk(s: &[u64], cap: u64, top: u64, n: u64, back: u64, p: u64, q: u64) -> Option<u64>
     requires { Room s.now cap }
     ensures { result ≡ walk_model n s.now cap top back p q }
 {
     if p == Handle::NO_SLOT {
-        return Walked::To(q);
+        return Some(q);
     }
     if n < 1 {
-        return Walked::Broken;
+        return None;
     }
     if !nodes::good_node(s, cap, top, back, p) {
-        return Walked::Broken;
+        return None;
     }
     let left = words::field(s, cap, p, LEFT);
     let right = words::field(s, cap, p, RIGHT);
-    match walk(s, cap, top, n - 1, p, left, q) {
-        Walked::To(x) => {
-            if joints::joins(s, cap, x, p) {
-                return walk(s, cap, top, n - 1, p, right, p);
-            }
-            return Walked::Broken;
-        }
-        Walked::Broken => {
-            return Walked::Broken;
-        }
+    let x = walk(s, cap, top, n - 1, p, left, q)?;
+    if !joints::joins(s, cap, x, p) {
+        return None;
     }
+    walk(s, cap, top, n - 1, p, right, p)
 }
 
 // The whole tree and the whole chain.
@@ -52,20 +40,9 @@ pub fn good_tree(s: &[u64], cap: u64, top: u64) -> bool
     requires { Room s.now cap }
     ensures { result ≡ whole_test s.now cap top }
 {
-    match walk(
-        s,
-        cap,
-        top,
-        BUDGET,
-        Handle::NO_SLOT,
-        words::head(s, ROOT),
-        Handle::NO_SLOT,
-    ) {
-        Walked::To(x) => {
-            return joints::joins(s, cap, x, Handle::NO_SLOT);
-        }
-        Walked::Broken => {
-            return false;
-        }
-    }
+    let root = words::head(s, ROOT);
+    let Some(x) = walk(s, cap, top, BUDGET, Handle::NO_SLOT, root, Handle::NO_SLOT) else {
+        return false;
+    };
+    joints::joins(s, cap, x, Handle::NO_SLOT)
 }

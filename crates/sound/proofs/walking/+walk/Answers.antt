@@ -19,11 +19,11 @@ pub field-right-requires-clause-i_lt_cap : goal.field-right-requires-clause-i_lt
 field-right-requires-clause-i_lt_cap t c =
     node-low _ _ _ _ _ _ c.good_node.ensures c.if-not-good_node.false
 
-pub returns-then-joins : goal.returns-then-joins
-returns-then-joins t c = search walk_on
+pub returns-in_err-x : goal.returns-in_err-x
+returns-in_err-x t c = let e = c.in_err-x.was in rw c.from_residual.ensures (search walk_broken)
 
-pub returns-in-To : goal.returns-in-To
-returns-in-To t c = search walk-apart
+pub returns-then-not-joins : goal.returns-then-not-joins
+returns-then-not-joins t c = let e = c.in_ok-x.was in search walk-apart
 
-pub returns-in-Broken : goal.returns-in-Broken
-returns-in-Broken t c = search walk_broken
+pub returns : goal.returns
+returns t c = let e = c.in_ok-x.was in search walk_on
