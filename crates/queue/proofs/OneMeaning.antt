@@ -73,13 +73,13 @@ apart : {A : Type 0} → ◌≡◌ {A = ℕ} 0 1 → A
 apart z = absurd (omega arith)
 
 pub laid_one : (a b : Result ⊤ Refusal) → laid_means a ≡ laid_means b → a ≡ b
-laid_one (Ok tt) (Ok tt) e = refl
-laid_one (Ok tt) (Err n) e = apart cc
-laid_one (Err m) (Ok tt) e = apart cc
+laid_one (Ok u) (Ok v) e = refl
+laid_one (Ok u) (Err n) e = apart cc
+laid_one (Err m) (Ok u) e = apart cc
 laid_one (Err m) (Err n) e = ap Err (refusal_one m n cc)
 
 pub inserted-one : (a b : Result I.Inserted Refusal) → inserted_means a ≡ inserted_means b → a ≡ b
-inserted-one (Ok (I.TheVariants.New h)) (Ok (I.TheVariants.New g)) e = ap Ok (I.TheVariants.New (handle-one h g cc))
+inserted-one (Ok (I.TheVariants.New h)) (Ok (I.TheVariants.New g)) e = ap (λ z. Ok (I.TheVariants.New z)) (handle-one h g cc)
 inserted-one (Ok (I.TheVariants.New h)) (Ok (I.TheVariants.Replacing g v)) e = apart cc
 inserted-one (Ok (I.TheVariants.New h)) (Err n) e = apart cc
 inserted-one (Ok (I.TheVariants.Replacing h u)) (Ok (I.TheVariants.New g)) e = apart cc
@@ -90,11 +90,11 @@ inserted-one (Err m) (Ok (I.TheVariants.Replacing g v)) e = apart cc
 inserted-one (Err m) (Err n) e = ap Err (refusal_one m n cc)
 
 pub ahead-one : (a b : Result A.Ahead Refusal) → ahead_means a ≡ ahead_means b → a ≡ b
-ahead-one (Ok (A.TheVariants.New h)) (Ok (A.TheVariants.New g)) e = ap Ok (A.TheVariants.New (handle-one h g cc))
+ahead-one (Ok (A.TheVariants.New h)) (Ok (A.TheVariants.New g)) e = ap (λ z. Ok (A.TheVariants.New z)) (handle-one h g cc)
 ahead-one (Ok (A.TheVariants.New h)) (Ok (A.TheVariants.Replacing g)) e = apart cc
 ahead-one (Ok (A.TheVariants.New h)) (Err n) e = apart cc
 ahead-one (Ok (A.TheVariants.Replacing h)) (Ok (A.TheVariants.New g)) e = apart cc
-ahead-one (Ok (A.TheVariants.Replacing h)) (Ok (A.TheVariants.Replacing g)) e = ap Ok (A.TheVariants.Replacing (handle-one h g cc))
+ahead-one (Ok (A.TheVariants.Replacing h)) (Ok (A.TheVariants.Replacing g)) e = ap (λ z. Ok (A.TheVariants.Replacing z)) (handle-one h g cc)
 ahead-one (Ok (A.TheVariants.Replacing h)) (Err n) e = apart cc
 ahead-one (Err m) (Ok (A.TheVariants.New g)) e = apart cc
 ahead-one (Err m) (Ok (A.TheVariants.Replacing g)) e = apart cc
@@ -118,14 +118,14 @@ pub removed-one : (a b : Result X.Removed Refusal) → FitsRemoved a → FitsRem
 removed-one (Ok (X.TheVariants.Entry x)) (Ok (X.TheVariants.Entry y)) f g e =
     let k : stored x.key.0 ≡ stored y.key.0 = cc in
     let v : x.value ≡ y.value = cc in
-    ap Ok (X.TheVariants.Entry (entry-one x y f g k v))
+    ap (λ z. Ok (X.TheVariants.Entry z)) (entry-one x y f g k v)
 removed-one (Ok (X.TheVariants.Entry x)) (Ok (X.TheVariants.GenerationOverflow y)) f g e = apart cc
 removed-one (Ok (X.TheVariants.Entry x)) (Err n) f g e = apart cc
 removed-one (Ok (X.TheVariants.GenerationOverflow x)) (Ok (X.TheVariants.Entry y)) f g e = apart cc
 removed-one (Ok (X.TheVariants.GenerationOverflow x)) (Ok (X.TheVariants.GenerationOverflow y)) f g e =
     let k : stored x.key.0 ≡ stored y.key.0 = cc in
     let v : x.value ≡ y.value = cc in
-    ap Ok (X.TheVariants.GenerationOverflow (entry-one x y f g k v))
+    ap (λ z. Ok (X.TheVariants.GenerationOverflow z)) (entry-one x y f g k v)
 removed-one (Ok (X.TheVariants.GenerationOverflow x)) (Err n) f g e = apart cc
 removed-one (Err m) (Ok (X.TheVariants.Entry y)) f g e = apart cc
 removed-one (Err m) (Ok (X.TheVariants.GenerationOverflow y)) f g e = apart cc
@@ -170,7 +170,7 @@ searched-one (Ok (S.TheVariants.Beside h c m)) (Ok (S.TheVariants.Empty n)) e = 
 searched-one (Ok (S.TheVariants.Beside h c m)) (Err n) e = apart cc
 searched-one (Ok (S.TheVariants.Empty m)) (Ok (S.TheVariants.Equal g n)) e = apart cc
 searched-one (Ok (S.TheVariants.Empty m)) (Ok (S.TheVariants.Beside g d n)) e = apart cc
-searched-one (Ok (S.TheVariants.Empty m)) (Ok (S.TheVariants.Empty n)) e = ap Ok (S.TheVariants.Empty cc)
+searched-one (Ok (S.TheVariants.Empty m)) (Ok (S.TheVariants.Empty n)) e = let p : m ≡ n = cc in ap (λ z. Ok (S.TheVariants.Empty z)) p
 searched-one (Ok (S.TheVariants.Empty m)) (Err n) e = apart cc
 searched-one (Err m) (Ok (S.TheVariants.Equal g n)) e = apart cc
 searched-one (Err m) (Ok (S.TheVariants.Beside g d n)) e = apart cc
@@ -181,7 +181,7 @@ cursor_one : (c d : Cursor) → plain c.handle ≡ plain d.handle → c ≡ d
 cursor_one c d e = let h = handle-one c.handle d.handle e in λ i. record { handle = h i }
 
 pub moved-one : (a b : Result (Option Cursor) Refusal) → moved_means a ≡ moved_means b → a ≡ b
-moved-one (Ok (Some c)) (Ok (Some d)) e = ap Ok (Some (cursor_one c d cc))
+moved-one (Ok (Some c)) (Ok (Some d)) e = ap (λ z. Ok (Some z)) (cursor_one c d cc)
 moved-one (Ok (Some c)) (Ok None) e = apart cc
 moved-one (Ok (Some c)) (Err n) e = apart cc
 moved-one (Ok None) (Ok (Some d)) e = apart cc

@@ -46,7 +46,7 @@ pub record NeedPromise (capacity : ℕ) (r : Result ℕ Refusal) : Type 0 where
 -- nothing changes; else the store holds the fresh queue, and `Fresh` says every word of it.
 pub record LayOutPromise (s t : List ℕ) (capacity top : ℕ) (r : Result ⊤ Refusal) : Type 0 where
   pub does : (t, r) ≡ lay_out_words s capacity top
-  pub lays : GoodLayout (length s) capacity top → (r ≡ (Ok tt)) × Fresh s t capacity top × Holds t (fresh capacity top)
+  pub lays : GoodLayout (length s) capacity top → (r ≡ Ok tt) × Fresh s t capacity top × Holds t (fresh capacity top)
   pub refuses : ¬ GoodLayout (length s) capacity top → (t ≡ s) × (r ≡ Err BadLayout)
   -- on a store that holds a queue: document 01's answer and queue, as of every other call
   pub means : (q : Queue) → Holds s q

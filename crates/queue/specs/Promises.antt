@@ -18,7 +18,7 @@ pub record Writes {A B : Type 0} (five : A) (model : List ℕ × A) (reads : A �
   -- on every store: the answer and the complete store
   pub does : (t, r) ≡ model
   -- where the header fails: refusal 5, and nothing changes
-  pub fails : header_of s ≡ (Err NotSound) → (t ≡ s) × (r ≡ five)
+  pub fails : header_of s ≡ Err NotSound → (t ≡ s) × (r ≡ five)
   -- the length stays, and so do the numbers past what the capacity needs
   pub long : length t ≡ length s
   pub rest : (cap : ℕ) → Passing s cap → (k : ℕ) → need cap ≤ k → get_or t k 0 ≡ get_or s k 0
@@ -28,7 +28,7 @@ pub record Writes {A B : Type 0} (five : A) (model : List ℕ × A) (reads : A �
 -- A call that only looks takes the store by shared reference: it has no store afterwards.
 pub record Looks {A B : Type 0} (five : A) (model : A) (reads : A → B) (rule : Queue → B) (s : List ℕ) (r : A) : Type 0 where
   pub does : r ≡ model
-  pub fails : header_of s ≡ (Err NotSound) → r ≡ five
+  pub fails : header_of s ≡ Err NotSound → r ≡ five
   pub means : (q : Queue) → Holds s q → reads r ≡ rule q
 
 -- what a promise of a call that writes says by meaning alone, with no word of its model: x is document 01's answer and queue

@@ -1,128 +1,87 @@
-// The chain cursor: a value that stands at an entry, and whose methods hand it back moved, or say End.
+// The chain cursor: a value that stands at an entry, and whose methods hand it back moved, or none at the end.
 // From the Rust: advancing along the links of chain/impl_chain_arena_trait.rs.
-ghost use Rattle.std.specs.Prelude.{◌≡◌, ◌≤◌};
-ghost use Rattle.arena.specs.Words.{Room};
+ghost use Rattle.std.specs.Prelude.{◌≡◌, ◌≤◌, Ok};
 ghost use Rattle.queue.specs.Promised.{FirstPromise, LastPromise, AtPromise, BackPromise, ForwardPromise};
-ghost use Rattle.queue.specs.inner.Moving.{moved_to, start_call, step_in, step_call};
+ghost use Rattle.queue.specs.inner.Moving.{moved_to, start_call, step_call};
 
-use arena::header::Header;
 use arena::{entries, header};
-use chain::Stepped;
 use handle::{Handle, Refusal};
 
 // Stands at the entry that the handle names.
-#[derive(Clone, Copy)]
+#[derive(Clone, Copy, Debug, PartialEq, Eq)]
 pub struct Cursor {
     pub handle: Handle,
 }
 
-#[derive(Clone, Copy)]
-pub enum Moved {
-    At(Cursor),
-    End,
-    Refused(Refusal),
-}
-
-// A step along the chain, as the cursor's answer.
-fn moved_to(p: Stepped) -> Moved
-    ensures { result ≡ moved_to p }
+// A step along the chain, as the cursor's answer: none at its end.
+fn moved_to(p: Option<Handle>) -> Option<Cursor>
+    ensures { moved_to (Ok p) ≡ Ok result }
 {
-    match p {
-        Stepped::At(h) => Moved::At(Cursor { handle: h }),
-        Stepped::End => Moved::End,
-        Stepped::NotSound => Moved::Refused(Refusal::NotSound),
-    }
+    p.map(|h| Cursor { handle: h })
 }
 
 // The end of the chain on the side d.
-fn start(s: &[u64], d: u64) -> Moved
+#[tactic(auto, unfolding(crate::specs::inner::Moving::start_call))]
+fn start(s: &[u64], d: u64) -> Result<Option<Cursor>, Refusal>
     requires { d ≤ 1 }
     ensures { result ≡ start_call s.now d }
 {
-    let t = header::test(s);
-    match t {
-        Header::Passes(cap) => {
-            return moved_to(chain::end(s, cap, d));
-        }
-        Header::Fails => {
-            return Moved::Refused(Refusal::NotSound);
-        }
-    }
-}
-
-fn step_in(s: &[u64], cap: u64, h: Handle, d: u64) -> Moved
-    requires room { Room s.now cap }
-    requires d_bound { d ≤ 1 }
-    ensures { result ≡ step_in s.now cap h d }
-{
-    if entries::live(s, cap, h) {
-        return moved_to(chain::step(s, cap, h.slot.0, d));
-    }
-    Moved::Refused(Refusal::InvalidPtr)
+    let cap = header::test(s)?;
+    let p = chain::end(s, cap, d)?;
+    Ok(moved_to(p))
 }
 
 // One step from h on the side d.
-fn step(s: &[u64], h: Handle, d: u64) -> Moved
+#[tactic(auto, using(arena::proofs::SlotReads::live_low), unfolding(crate::specs::inner::Moving::step_call, crate::specs::inner::Moving::step_in))]
+fn step(s: &[u64], h: Handle, d: u64) -> Result<Option<Cursor>, Refusal>
     requires { d ≤ 1 }
     ensures { result ≡ step_call s.now h d }
 {
-    let t = header::test(s);
-    match t {
-        Header::Passes(cap) => {
-            return step_in(s, cap, h, d);
-        }
-        Header::Fails => {
-            return Moved::Refused(Refusal::NotSound);
-        }
+    let cap = header::test(s)?;
+    if !entries::live(s, cap, h) {
+        return Err(Refusal::InvalidPtr);
     }
+    let p = chain::step(s, cap, h.slot.0, d)?;
+    Ok(moved_to(p))
 }
 
 impl Cursor {
     // Stands at the first entry.
-    pub fn first(s: &[u64]) -> Moved
+    pub fn first(s: &[u64]) -> Result<Option<Cursor>, Refusal>
         ensures { FirstPromise s.now result }
     {
         start(s, 0)
     }
 
     // Stands at the last entry.
-    pub fn last(s: &[u64]) -> Moved
+    pub fn last(s: &[u64]) -> Result<Option<Cursor>, Refusal>
         ensures { LastPromise s.now result }
     {
         start(s, 1)
     }
 
     // Stands at the entry that h names.
-    pub fn at(s: &[u64], h: Handle) -> Moved
+    pub fn at(s: &[u64], h: Handle) -> Result<Option<Cursor>, Refusal>
         ensures { AtPromise s.now h result }
     {
-        let t = header::test(s);
-        match t {
-            Header::Passes(cap) => {
-                if entries::live(s, cap, h) {
-                    return Moved::At(Cursor { handle: h });
-                }
-                return Moved::Refused(Refusal::InvalidPtr);
-            }
-            Header::Fails => {
-                return Moved::Refused(Refusal::NotSound);
-            }
+        let cap = header::test(s)?;
+        if !entries::live(s, cap, h) {
+            return Err(Refusal::InvalidPtr);
         }
+        Ok(Some(Cursor { handle: h }))
     }
 
     // The cursor one entry on.
-    pub fn forward(self, s: &[u64]) -> Moved
+    pub fn forward(self, s: &[u64]) -> Result<Option<Cursor>, Refusal>
         ensures { ForwardPromise s.now self.handle result }
     {
-        let h = self.handle;
-        step(s, h, 1)
+        step(s, self.handle, 1)
     }
 
     // The cursor one entry back.
-    pub fn back(self, s: &[u64]) -> Moved
+    pub fn back(self, s: &[u64]) -> Result<Option<Cursor>, Refusal>
         ensures { BackPromise s.now self.handle result }
     {
-        let h = self.handle;
-        step(s, h, 0)
+        step(s, self.handle, 0)
     }
 }

@@ -3,73 +3,45 @@
 ghost use Rattle.std.specs.Prelude.{◌≡◌, ◌<◌};
 ghost use Rattle.arena.specs.Words.{Room};
 ghost use Rattle.queue.specs.Promised.{CheckPromise, SearchPromise, ReadPromise};
-ghost use Rattle.queue.specs.inner.Looking.{searched, handle_at};
+ghost use Rattle.queue.specs.inner.Looking.{searched};
 
-use arena::header::Header;
-use arena::words::GENERATION;
-use arena::{header, keys, words};
+use arena::{header, keys, slots};
 use find::Found;
-use handle::{Generation, Handle, Key, Reading, Refusal, Side, Slot};
+use handle::{Entry, Handle, Key, Refusal, Side};
 use remove::reading;
 
 // What a search answers: the entry with an equal key, or the last one looked at and the side of it on which the key lies. The
 // number is how many entries were looked at.
-#[derive(Clone, Copy)]
+#[derive(Clone, Copy, Debug, PartialEq, Eq)]
 pub enum Searched {
     Equal(Handle, u64),
     Beside(Handle, Side, u64),
     Empty(u64),
-    Refused(Refusal),
 }
 
-// The handle of the entry in the slot p.
-fn handle_at(s: &[u64], cap: u64, p: u64) -> Handle
-    requires room { Room s.now cap }
-    requires p_lt_cap { p < cap }
-    ensures { result ≡ handle_at s.now cap p }
-{
-    let g = words::field(s, cap, p, GENERATION);
-    Handle::new(Slot(p), Generation(g))
-}
-
-fn search_in(s: &[u64], cap: u64, k: u64) -> Searched
+#[tactic(auto, unfolding(crate::specs::inner::Looking::searched, crate::specs::inner::Looking::handle_at))]
+fn search_in(s: &[u64], cap: u64, k: u64) -> Result<Searched, Refusal>
     requires { Room s.now cap }
     ensures { result ≡ searched s.now cap k }
 {
-    let found = find::seek(s, cap, k);
-    match found {
-        Found::Equal(p, n) => {
-            return Searched::Equal(handle_at(s, cap, p), n);
-        }
+    match find::seek(s, cap, k)? {
+        Found::Equal(p, n) => Ok(Searched::Equal(slots::handle_at(s, cap, p), n)),
         Found::Beside(p, d, n) => {
-            let h = handle_at(s, cap, p);
+            let h = slots::handle_at(s, cap, p);
             if d == 0 {
-                return Searched::Beside(h, Side::Less, n);
+                return Ok(Searched::Beside(h, Side::Less, n));
             }
-            return Searched::Beside(h, Side::Greater, n);
+            Ok(Searched::Beside(h, Side::Greater, n))
         }
-        Found::Empty => {
-            return Searched::Empty(0);
-        }
-        Found::NotSound => {
-            return Searched::Refused(Refusal::NotSound);
-        }
+        Found::Empty => Ok(Searched::Empty(0)),
     }
 }
 
-pub fn search(s: &[u64], key: Key) -> Searched
+pub fn search(s: &[u64], key: Key) -> Result<Searched, Refusal>
     ensures { SearchPromise s.now key.0 result }
 {
-    let h = header::test(s);
-    match h {
-        Header::Passes(cap) => {
-            let k = keys::stored_key(key);
-            return search_in(s, cap, k);
-        }
-        Header::Fails => {
-            return Searched::Refused(Refusal::NotSound);
-        }
-    }
+    let cap = header::test(s)?;
+    search_in(s, cap, keys::stored_key(key))
 }
 
 // Whether the store is sound.
@@ -80,16 +52,9 @@ pub fn check(s: &[u64]) -> bool
 }
 
 // The key and the value of the entry that h names.
-pub fn read(s: &[u64], h: Handle) -> Reading
+pub fn read(s: &[u64], h: Handle) -> Result<Entry, Refusal>
     ensures { ReadPromise s.now h result }
 {
-    let t = header::test(s);
-    match t {
-        Header::Passes(cap) => {
-            return reading::read(s, cap, h);
-        }
-        Header::Fails => {
-            return Reading::Refused(Refusal::NotSound);
-        }
-    }
+    let cap = header::test(s)?;
+    reading::read(s, cap, h)
 }

@@ -33,7 +33,7 @@ abbrev pub as_searched : List ℕ → ℕ → Result Found Refusal → Result Se
 as_searched s cap (Ok (F.Equal p n)) = Ok (S.Equal (handle_at s cap p) n)
 as_searched s cap (Ok (F.Beside p d n)) = Ok (S.Beside (handle_at s cap p) (side_for d) n)
 as_searched s cap (Ok F.Empty) = Ok (S.Empty 0)
-as_searched s cap (Err n) = Err R.NotSound
+as_searched s cap (Err n) = Err n
 
 unfoldable pub searched : List ℕ → ℕ → ℕ → Result Searched Refusal
 searched s cap k = as_searched s cap (seek_model s cap k)

@@ -18,7 +18,7 @@ cursor_at h = record { handle = h }
 abbrev pub moved_to : (Result (Option Handle) Refusal) → Result (Option Cursor) Refusal
 moved_to (Ok (Some h)) = Ok (Some (cursor_at h))
 moved_to (Ok None) = Ok None
-moved_to (Err n) = Err R.NotSound
+moved_to (Err n) = Err n
 
 -- the first entry for d = 0, the last for d = 1
 unfoldable pub start_call : List ℕ → ℕ → Result (Option Cursor) Refusal

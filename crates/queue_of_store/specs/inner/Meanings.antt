@@ -3,10 +3,11 @@
 -- count"; "at an end the answer is End". Refusal 5 is never met on a sound store.
 use Rattle.std.specs.Prelude.{ℕ, zero, suc, Bool, true, false, List, Result, Ok, Err, Option, Some, None}
 use Rattle.arena.specs.Words.{field, GENERATION}
+use Rattle.handle.specs.Numbers.{refusal_number}
 use Rattle.wavl.specs.Search as Search
 use Rattle.rules.specs.Queue.{Handle, handle}
 use Rattle.rules.specs.Place.{Spot, nowhere, spot}
-use Rattle.rules.specs.Answers.{Where, less, greater, SearchAnswer, equal_at, beside, no_entry, not_found, Stepped, stands, at_end, not_stepped, not_sound}
+use Rattle.rules.specs.Answers.{Where, less, greater, SearchAnswer, equal_at, beside, no_entry, not_found, Stepped, stands, at_end, not_stepped}
 use Rattle.queue_of_store.specs.Ends.{number}
 use Rattle.queue_of_store.specs.Handles.{plain}
 use Rattle.find.specs.declared.Found as F
@@ -17,7 +18,7 @@ use Rattle.handle.specs.declared.Handle as H
 abbrev pub in_slots : Search.Found → Result F.Found Refusal
 in_slots (Search.equal_to e n) = Ok (F.TheVariants.Equal e.slot n)
 in_slots (Search.nearest e d n) = Ok (F.TheVariants.Beside e.slot (number d) n)
-in_slots Search.empty_tree = (Ok F.TheVariants.Empty)
+in_slots Search.empty_tree = Ok F.TheVariants.Empty
 
 -- a side by its number
 abbrev pub side_no : ℕ → Where
@@ -32,12 +33,12 @@ abbrev pub found_means : List ℕ → ℕ → Result F.Found Refusal → SearchA
 found_means s cap (Ok (F.TheVariants.Equal p n)) = equal_at (handle_in_slot s cap p) n
 found_means s cap (Ok (F.TheVariants.Beside p d n)) = beside (handle_in_slot s cap p) (side_no d) n
 found_means s cap (Ok F.TheVariants.Empty) = no_entry 0
-found_means s cap (Err n) = not_found not_sound
+found_means s cap (Err n) = not_found (refusal_number n)
 
 abbrev pub step_means : (Result (Option H.Handle) Refusal) → Stepped
 step_means (Ok (Some h)) = stands (plain h)
 step_means (Ok None) = at_end
-step_means (Err n) = not_stepped not_sound
+step_means (Err n) = not_stepped (refusal_number n)
 
 -- whether a handle's place is one
 abbrev pub is_spot : Spot → Bool

@@ -1,17 +1,16 @@
-use Rattle.arena.proofs.SlotReads.{passes-room}
+use Rattle.std.proofs.lemmas.Result.{err_from_is_err_and}
 use Rattle.queue.specs.inner.Looking.{search_call}
 use Rattle.queue.proofs.CallReads.{on_passes, on_fails, searched-key}
 use Rattle.queue.proofs.Promising.{search-looks}
 use Rattle.queue.proofs.looking.search.Goals as goal
 
-pub search_in-requires : goal.search_in-requires
+pub returns-in_err-cap : goal.returns-in_err-cap
 unfolding search_call
-search_in-requires c = search (search-looks, on_passes, on_fails, passes-room, searched-key)
+returns-in_err-cap c =
+    let e = c.in_err-cap.was in
+    let p = err_from_is_err_and c.from_residual.result c.from_residual.ensures.1 in
+    rw (p.1, p.2, c.in_err-cap.ensures.says) (search (search-looks, on_fails))
 
-pub returns-in-Passes : goal.returns-in-Passes
+pub returns : goal.returns
 unfolding search_call
-returns-in-Passes c = search (search-looks, on_passes, on_fails, passes-room, searched-key)
-
-pub returns-in-Fails : goal.returns-in-Fails
-unfolding search_call
-returns-in-Fails c = search (search-looks, on_passes, on_fails, passes-room, searched-key)
+returns c = let e = c.in_ok-cap.was in search (search-looks, on_passes, searched-key)

@@ -1,17 +1,16 @@
-use Rattle.arena.proofs.SlotReads.{passes-room}
+use Rattle.std.proofs.lemmas.Result.{err_from_is_err_and}
 use Rattle.queue.specs.inner.Placing.{ahead_call}
 use Rattle.queue.proofs.CallReads.{on_passes, on_fails}
 use Rattle.queue.proofs.Promising.{ahead-looks}
 use Rattle.queue.proofs.placing.look_ahead.Goals as goal
 
-pub ahead_normal-requires : goal.ahead_normal-requires
+pub returns-in_err-cap : goal.returns-in_err-cap
 unfolding ahead_call
-ahead_normal-requires c = search (on_passes, on_fails, passes-room)
+returns-in_err-cap c =
+    let e = c.in_err-cap.was in
+    let p = err_from_is_err_and c.from_residual.result c.from_residual.ensures.1 in
+    rw (p.1, p.2, c.in_err-cap.ensures.says) (search (ahead-looks, on_fails))
 
-pub returns-in-Passes : goal.returns-in-Passes
+pub returns : goal.returns
 unfolding ahead_call
-returns-in-Passes c = search (ahead-looks, on_passes, on_fails, passes-room)
-
-pub returns-in-Fails : goal.returns-in-Fails
-unfolding ahead_call
-returns-in-Fails c = search (ahead-looks, on_passes, on_fails, passes-room)
+returns c = let e = c.in_ok-cap.was in search (ahead-looks, on_passes)
