@@ -46,6 +46,7 @@ pub fn hosted_sound(s: &[u64]) -> bool
     sound::sound(s)
 }
 
+#[tactic(auto, unfolding(crate::specs::inner::Told::stores))]
 pub fn hosted_lay_out(s: &mut [u64], capacity: u64, top: u64) -> u64
     ensures { (s.new, result) ≡ stores laid_out_told (lay_out_words s.old capacity top) }
 {
@@ -53,6 +54,7 @@ pub fn hosted_lay_out(s: &mut [u64], capacity: u64, top: u64) -> u64
     telling::laid_out(r)
 }
 
+#[tactic(auto, unfolding(crate::specs::inner::Told::stores))]
 pub fn hosted_insert(s: &mut [u64], key: i64, value: u64, a: &mut [u64; 4]) -> u64
     ensures { (s.new, (result, a.new)) ≡ stores inserted_told (insert_call s.old key value) }
 {
@@ -60,6 +62,7 @@ pub fn hosted_insert(s: &mut [u64], key: i64, value: u64, a: &mut [u64; 4]) -> u
     telling::inserted(a, r)
 }
 
+#[tactic(auto, unfolding(crate::specs::inner::Told::stores))]
 pub fn hosted_insert_empty(s: &mut [u64], key: i64, value: u64, a: &mut [u64; 4]) -> u64
     ensures { (s.new, (result, a.new)) ≡ stores inserted_told (empty_call s.old key value) }
 {
@@ -67,6 +70,7 @@ pub fn hosted_insert_empty(s: &mut [u64], key: i64, value: u64, a: &mut [u64; 4]
     telling::inserted(a, r)
 }
 
+#[tactic(auto, unfolding(crate::specs::inner::Told::stores))]
 pub fn hosted_insert_manual(
     s: &mut [u64],
     slot: u64,
@@ -84,6 +88,7 @@ pub fn hosted_insert_manual(
     telling::inserted(a, r)
 }
 
+#[tactic(auto, unfolding(crate::specs::inner::Told::tells))]
 pub fn hosted_look_ahead(s: &[u64], key: i64, a: &mut [u64; 4]) -> u64
     ensures { (result, a.new) ≡ tells ahead_told (ahead_call s.now key) }
 {
@@ -98,6 +103,7 @@ pub fn hosted_look_ahead_empty(s: &[u64], a: &mut [u64; 4]) -> u64
     telling::ahead(a, r)
 }
 
+#[tactic(auto, unfolding(crate::specs::inner::Told::tells))]
 pub fn hosted_look_ahead_manual(
     s: &[u64],
     slot: u64,
@@ -114,6 +120,7 @@ pub fn hosted_look_ahead_manual(
     telling::ahead(a, r)
 }
 
+#[tactic(auto, unfolding(crate::specs::inner::Told::stores))]
 pub fn hosted_remove(s: &mut [u64], slot: u64, generation: u64, a: &mut [u64; 4]) -> u64
     ensures { (s.new, (result, a.new)) ≡ stores removed_told (remove_call s.old (handle_with slot generation)) }
 {
@@ -122,6 +129,7 @@ pub fn hosted_remove(s: &mut [u64], slot: u64, generation: u64, a: &mut [u64; 4]
     telling::removed(a, r)
 }
 
+#[tactic(auto, unfolding(crate::specs::inner::Told::tells))]
 pub fn hosted_read(s: &[u64], slot: u64, generation: u64, a: &mut [u64; 4]) -> u64
     ensures { (result, a.new) ≡ tells reading_told (read_call s.now (handle_with slot generation)) }
 {
@@ -130,6 +138,7 @@ pub fn hosted_read(s: &[u64], slot: u64, generation: u64, a: &mut [u64; 4]) -> u
     telling::reading(a, r)
 }
 
+#[tactic(auto, unfolding(crate::specs::inner::Told::tells))]
 pub fn hosted_search(s: &[u64], key: i64, a: &mut [u64; 4]) -> u64
     ensures { (result, a.new) ≡ tells searched_told (search_call s.now key) }
 {
@@ -137,6 +146,7 @@ pub fn hosted_search(s: &[u64], key: i64, a: &mut [u64; 4]) -> u64
     telling::searched(a, r)
 }
 
+#[tactic(auto, unfolding(crate::specs::inner::Told::tells))]
 pub fn hosted_first(s: &[u64], a: &mut [u64; 4]) -> u64
     ensures { (result, a.new) ≡ tells moved_told (start_call s.now 0) }
 {
@@ -144,6 +154,7 @@ pub fn hosted_first(s: &[u64], a: &mut [u64; 4]) -> u64
     telling::moved(a, r)
 }
 
+#[tactic(auto, unfolding(crate::specs::inner::Told::tells))]
 pub fn hosted_last(s: &[u64], a: &mut [u64; 4]) -> u64
     ensures { (result, a.new) ≡ tells moved_told (start_call s.now 1) }
 {
@@ -151,6 +162,7 @@ pub fn hosted_last(s: &[u64], a: &mut [u64; 4]) -> u64
     telling::moved(a, r)
 }
 
+#[tactic(auto, unfolding(crate::specs::inner::Told::tells))]
 pub fn hosted_at(s: &[u64], slot: u64, generation: u64, a: &mut [u64; 4]) -> u64
     ensures { (result, a.new) ≡ tells moved_told (stand_call s.now (handle_with slot generation)) }
 {
@@ -159,6 +171,7 @@ pub fn hosted_at(s: &[u64], slot: u64, generation: u64, a: &mut [u64; 4]) -> u64
     telling::moved(a, r)
 }
 
+#[tactic(auto, unfolding(crate::specs::inner::Told::tells))]
 pub fn hosted_forward(s: &[u64], slot: u64, generation: u64, a: &mut [u64; 4]) -> u64
     ensures { (result, a.new) ≡ tells moved_told (step_call s.now (handle_with slot generation) 1) }
 {
@@ -168,6 +181,7 @@ pub fn hosted_forward(s: &[u64], slot: u64, generation: u64, a: &mut [u64; 4]) -
     telling::moved(a, r)
 }
 
+#[tactic(auto, unfolding(crate::specs::inner::Told::tells))]
 pub fn hosted_back(s: &[u64], slot: u64, generation: u64, a: &mut [u64; 4]) -> u64
     ensures { (result, a.new) ≡ tells moved_told (step_call s.now (handle_with slot generation) 0) }
 {

@@ -4,8 +4,8 @@ ghost use Rattle.std.specs.Prelude.{◌≡◌};
 ghost use Rattle.host_numbers.specs.inner.Told.{row, handle_told, entry_told, refused_told, laid_out_told, inserted_told, ahead_told, removed_told, reading_told, side_code, searched_told, moved_told};
 
 use arena::keys;
-use handle::{Ahead, Entry, Handle, Inserted, LaidOut, Reading, Refusal, Removed, Side};
-use queue::cursor::Moved;
+use handle::{Ahead, Entry, Handle, Inserted, Refusal, Removed, Side};
+use queue::cursor::Cursor;
 use queue::looking::Searched;
 
 fn put_row(a: &mut [u64; 4], x: u64, y: u64, z: u64)
@@ -31,79 +31,55 @@ fn handle(a: &mut [u64; 4], code: u64, h: Handle, n: u64) -> u64
 fn entry(a: &mut [u64; 4], code: u64, e: Entry) -> u64
     ensures { (result, a.new) ≡ entry_told code e }
 {
-    let k = e.key;
-    let w = keys::stored_key(k);
-    put_row(a, w, e.value, 0);
+    put_row(a, keys::stored_key(e.key), e.value, 0);
     code
 }
 
-pub fn laid_out(r: LaidOut) -> u64
+pub fn laid_out(r: Result<(), Refusal>) -> u64
     ensures { result ≡ laid_out_told r }
 {
     match r {
-        LaidOut::Done => 16,
-        LaidOut::Refused(why) => why.number(),
+        Ok(()) => 16,
+        Err(why) => why.number(),
     }
 }
 
-pub fn inserted(a: &mut [u64; 4], r: Inserted) -> u64
+pub fn inserted(a: &mut [u64; 4], r: Result<Inserted, Refusal>) -> u64
     ensures { (result, a.new) ≡ inserted_told r }
 {
     match r {
-        Inserted::New(h) => {
-            return handle(a, 16, h, 0);
-        }
-        Inserted::Replacing(h, old) => {
-            return handle(a, 17, h, old);
-        }
-        Inserted::Refused(why) => {
-            return refused(a, why);
-        }
+        Ok(Inserted::New(h)) => handle(a, 16, h, 0),
+        Ok(Inserted::Replacing(h, old)) => handle(a, 17, h, old),
+        Err(why) => refused(a, why),
     }
 }
 
-pub fn ahead(a: &mut [u64; 4], r: Ahead) -> u64
+pub fn ahead(a: &mut [u64; 4], r: Result<Ahead, Refusal>) -> u64
     ensures { (result, a.new) ≡ ahead_told r }
 {
     match r {
-        Ahead::New(h) => {
-            return handle(a, 16, h, 0);
-        }
-        Ahead::Replacing(h) => {
-            return handle(a, 17, h, 0);
-        }
-        Ahead::Refused(why) => {
-            return refused(a, why);
-        }
+        Ok(Ahead::New(h)) => handle(a, 16, h, 0),
+        Ok(Ahead::Replacing(h)) => handle(a, 17, h, 0),
+        Err(why) => refused(a, why),
     }
 }
 
-pub fn removed(a: &mut [u64; 4], r: Removed) -> u64
+pub fn removed(a: &mut [u64; 4], r: Result<Removed, Refusal>) -> u64
     ensures { (result, a.new) ≡ removed_told r }
 {
     match r {
-        Removed::Entry(e) => {
-            return entry(a, 16, e);
-        }
-        Removed::GenerationOverflow(e) => {
-            return entry(a, 17, e);
-        }
-        Removed::Refused(why) => {
-            return refused(a, why);
-        }
+        Ok(Removed::Entry(e)) => entry(a, 16, e),
+        Ok(Removed::GenerationOverflow(e)) => entry(a, 17, e),
+        Err(why) => refused(a, why),
     }
 }
 
-pub fn reading(a: &mut [u64; 4], r: Reading) -> u64
+pub fn reading(a: &mut [u64; 4], r: Result<Entry, Refusal>) -> u64
     ensures { (result, a.new) ≡ reading_told r }
 {
     match r {
-        Reading::Entry(e) => {
-            return entry(a, 16, e);
-        }
-        Reading::Refused(why) => {
-            return refused(a, why);
-        }
+        Ok(e) => entry(a, 16, e),
+        Err(why) => refused(a, why),
     }
 }
 
@@ -117,41 +93,29 @@ fn side_code(side: Side) -> u64
     }
 }
 
-pub fn searched(a: &mut [u64; 4], r: Searched) -> u64
+pub fn searched(a: &mut [u64; 4], r: Result<Searched, Refusal>) -> u64
     ensures { (result, a.new) ≡ searched_told r }
 {
     match r {
-        Searched::Equal(h, n) => {
-            return handle(a, 16, h, n);
-        }
-        Searched::Beside(h, side, n) => {
-            let code = side_code(side);
-            return handle(a, code, h, n);
-        }
-        Searched::Empty(n) => {
+        Ok(Searched::Equal(h, n)) => handle(a, 16, h, n),
+        Ok(Searched::Beside(h, side, n)) => handle(a, side_code(side), h, n),
+        Ok(Searched::Empty(n)) => {
             put_row(a, 0, 0, n);
-            return 19;
+            19
         }
-        Searched::Refused(why) => {
-            return refused(a, why);
-        }
+        Err(why) => refused(a, why),
     }
 }
 
-pub fn moved(a: &mut [u64; 4], r: Moved) -> u64
+pub fn moved(a: &mut [u64; 4], r: Result<Option<Cursor>, Refusal>) -> u64
     ensures { (result, a.new) ≡ moved_told r }
 {
     match r {
-        Moved::At(c) => {
-            let h = c.handle;
-            return handle(a, 16, h, 0);
-        }
-        Moved::End => {
+        Ok(Some(c)) => handle(a, 16, c.handle, 0),
+        Ok(None) => {
             put_row(a, 0, 0, 0);
-            return 17;
+            17
         }
-        Moved::Refused(why) => {
-            return refused(a, why);
-        }
+        Err(why) => refused(a, why),
     }
 }

@@ -11,7 +11,7 @@ use Rattle.handle.specs.declared.Refusal.{Refusal}
 use Rattle.queue.specs.declared.cursor.Cursor.{Cursor}
 
 abbrev pub laid_means : (Result ⊤ Refusal) → Laid
-laid_means (Ok tt) = laid
+laid_means (Ok u) = laid
 laid_means (Err r) = not_laid (refusal_number r)
 
 -- "the equal entry's handle, or the last node's handle and the side, or Empty, each with the count"

@@ -1,7 +1,9 @@
-use Rattle.host_numbers.specs.inner.Told.{ahead_told}
+-- The look-ahead of Empty serves any key: 0 stands for it here.
 use lib.IntN.{pos}
-use Rattle.host_numbers.proofs.Told.{by-looks}
+use Rattle.host_numbers.specs.inner.Told.{tells}
+use Rattle.std.proofs.Common.{rules}
 use Rattle.host_numbers.proofs.hosted_look_ahead_empty.Goals as goal
 
 pub returns : goal.returns
-returns c = by-looks ahead_told _ _ _ (c.look_ahead_empty-r.ensures (pos 0)).does c.ahead.ensures
+unfolding tells
+returns c = let e = (c.look_ahead_empty-r.ensures (pos 0)).does in search rules

@@ -47,7 +47,7 @@ abbrev pub entry_told : ℕ → Entry → Told
 entry_told code e = (code, row (stored e.key.0) e.value 0)
 
 abbrev pub laid_out_told : (Result ⊤ Refusal) → ℕ
-laid_out_told (Ok tt) = 16
+laid_out_told (Ok u) = 16
 laid_out_told (Err r) = refusal_number r
 
 abbrev pub inserted_told : (Result I.Inserted Refusal) → Told

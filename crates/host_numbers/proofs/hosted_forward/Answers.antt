@@ -1,6 +1,0 @@
-use Rattle.host_numbers.specs.inner.Told.{moved_told}
-use Rattle.host_numbers.proofs.Told.{by-looks}
-use Rattle.host_numbers.proofs.hosted_forward.Goals as goal
-
-pub returns : goal.returns
-returns c = by-looks moved_told _ _ _ (rw c.handle_of-h.ensures at c.forward-r.ensures.does) c.moved.ensures
