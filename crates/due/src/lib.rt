@@ -55,6 +55,17 @@ pub struct Time {
     pub second: Second,
 }
 
+// The first and the last local time.
+const FIRST: Time = Time {
+    day: Day(DAY_LOW),
+    second: Second(SECOND_LOW),
+};
+
+const LAST: Time = Time {
+    day: Day(DAY_HIGH),
+    second: Second(SECOND_HIGH),
+};
+
 // The one error here: a field, or the day of a key, lies out of its range. It is document 01's refusal 6.
 #[derive(Clone, Copy, Debug, PartialEq, Eq)]
 pub struct BadTime;
@@ -119,11 +130,11 @@ fn ahead(z: i64, offset: i64) -> i64
 }
 
 // Seconds from 1970-01-01 at offset 0.
-fn moment(day: i64, second: i64, offset: i64) -> i64
-    requires { GoodTime day second offset }
-    ensures { result ≡ moment_of day second offset }
+fn moment(time: Time, offset: Offset) -> i64
+    requires { GoodTime time.day.0 time.second.0 offset.0 }
+    ensures { result ≡ moment_of time.day.0 time.second.0 offset.0 }
 {
-    behind(day * 86_400 + second, offset)
+    behind(time.day.0 * 86_400 + time.second.0, offset.0)
 }
 
 // The drum takes the last place of a key, of eight: so it decides between two keys of one moment, and no other two.
@@ -142,7 +153,7 @@ pub fn key_of(time: Time, offset: Offset, drum: Drum) -> Result<Key, BadTime>
     within(SECOND_LOW, SECOND_HIGH, time.second.0)?;
     within(OFFSET_LOW, OFFSET_HIGH, offset.0)?;
     within(DRUM_LOW, DRUM_HIGH, drum.0)?;
-    let at = moment(time.day.0, time.second.0, offset.0);
+    let at = moment(time, offset);
     Ok(Key(with_drum(at, drum.0)))
 }
 
@@ -152,8 +163,8 @@ pub fn time_of(key: Key, offset: Offset) -> Result<(Time, Drum), BadTime>
     ensures { time_found result ≡ from_key key.0 offset.0 }
 {
     within(OFFSET_LOW, OFFSET_HIGH, offset.0)?;
-    let first = moment(DAY_LOW, SECOND_LOW, offset.0);
-    let last = moment(DAY_HIGH, SECOND_HIGH, offset.0);
+    let first = moment(FIRST, offset);
+    let last = moment(LAST, offset);
     let at = floor(key.0, 8);
     within(first, last, at)?;
     let local = ahead(at, offset.0);

@@ -44,8 +44,7 @@ moment-at-requires c =
     let day : SFits w64 c.args.time.day.0 = search rules in
     let second : SFits w64 c.args.time.second.0 = search rules in
     let offset : SFits w64 c.args.offset.0 = search rules in
-    rw (to_z-of_z _ _ day, to_z-of_z _ _ second, to_z-of_z _ _ offset)
-    (good_fact _ _ _ (both (both (tested _ _ day c.in_ok-within.ensures) (tested _ _ second c.in_ok-within-2.ensures)) (tested _ _ offset c.in_ok-within-3.ensures)))
+    good_fact _ _ _ (both (both (tested _ _ day c.in_ok-within.ensures) (tested _ _ second c.in_ok-within-2.ensures)) (tested _ _ offset c.in_ok-within-3.ensures))
 
 pub with_drum-requires : goal.with_drum-requires
 with_drum-requires c =
@@ -55,8 +54,7 @@ with_drum-requires c =
     let drum : SFits w64 c.args.drum.0 = search rules in
     let at : SFits w64 c.moment-at.result = search rules in
     let g = good_fact _ _ _ (both (both (tested _ _ day c.in_ok-within.ensures) (tested _ _ second c.in_ok-within-2.ensures)) (tested _ _ offset c.in_ok-within-3.ensures)) in
-    let m = rw (to_z-of_z _ _ day, to_z-of_z _ _ second, to_z-of_z _ _ offset) at c.moment-at.ensures in
-    rw (to_z-of_z _ _ at, m, to_z-of_z _ _ drum)
+    rw (to_z-of_z _ _ at, c.moment-at.ensures, to_z-of_z _ _ drum)
     (eighths_fit _ _ _ g, key_fits _ _ _ g _ (within_fact _ _ _ (tested _ _ drum c.in_ok-within-4.ensures)))
 
 pub returns : goal.returns
@@ -68,8 +66,7 @@ returns c =
     let drum : SFits w64 c.args.drum.0 = search rules in
     let at : SFits w64 c.moment-at.result = search rules in
     let key : SFits w64 c.with_drum.result = search rules in
-    let m = rw (to_z-of_z _ _ day, to_z-of_z _ _ second, to_z-of_z _ _ offset) at c.moment-at.ensures in
-    let e = rw (to_z-of_z _ _ at, m, to_z-of_z _ _ drum) at c.with_drum.ensures in
+    let e = rw (to_z-of_z _ _ at, c.moment-at.ensures, to_z-of_z _ _ drum) at c.with_drum.ensures in
     let in_day : good_day c.args.time.day.0 ≡ true = tested _ _ day c.in_ok-within.ensures in
     let in_second : good_second c.args.time.second.0 ≡ true = tested _ _ second c.in_ok-within-2.ensures in
     let in_offset : good_offset c.args.offset.0 ≡ true = tested _ _ offset c.in_ok-within-3.ensures in

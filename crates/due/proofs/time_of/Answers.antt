@@ -11,17 +11,14 @@ use Rattle.due.proofs.NoOverflow.{ends-good, local_fits}
 use Rattle.due.proofs.Single.{no_time_so}
 use Rattle.due.proofs.time_of.Goals as goal
 
-module _ {key offset first last at : ℤ} {t : Bool} (k : SFits w64 key) (o : SFits w64 offset) (f : SFits w64 first) (l : SFits w64 last) (w : SFits w64 at)
-    (a : first ≡ moment_of day_low second_low (to_z w64 (of_z w64 offset))) (b : last ≡ moment_of day_high second_high (to_z w64 (of_z w64 offset)))
-    (d : at ≡ floor_div (to_z w64 (of_z w64 key)) drums)
+module _ (key offset : ℤ) {first last at : ℤ} {t : Bool} (k : SFits w64 key) (f : SFits w64 first) (l : SFits w64 last) (w : SFits w64 at)
+    (a : first ≡ moment_of day_low second_low offset) (b : last ≡ moment_of day_high second_high offset) (d : at ≡ floor_div (to_z w64 (of_z w64 key)) drums)
     (e : t ≡ within (to_z w64 (of_z w64 first)) (to_z w64 (of_z w64 last)) (to_z w64 (of_z w64 at))) where
   range_is : within (moment_of day_low second_low offset) (moment_of day_high second_high offset) (moment_in key) ≡ t
   unfolding moment_in
   range_is =
-      let a' = rw (to_z-of_z _ _ o) at a in
-      let b' = rw (to_z-of_z _ _ o) at b in
       let d' = rw (to_z-of_z _ _ k) at d in
-      sym (rw (to_z-of_z _ _ f, to_z-of_z _ _ l, to_z-of_z _ _ w, a', b', d') at e)
+      sym (rw (to_z-of_z _ _ f, to_z-of_z _ _ l, to_z-of_z _ _ w, a, b, d') at e)
 
 pub returns-in_err-within : goal.returns-in_err-within
 unfolding from_key
@@ -32,12 +29,12 @@ returns-in_err-within c =
 pub moment-first-requires : goal.moment-first-requires
 moment-first-requires c =
     let offset : SFits w64 c.args.offset.0 = search rules in
-    rw (to_z-of_z _ _ offset) (ends-good _ (within_fact _ _ _ (tested _ _ offset c.in_ok-within.ensures))).0
+    (ends-good _ (within_fact _ _ _ (tested _ _ offset c.in_ok-within.ensures))).0
 
 pub moment-last-requires : goal.moment-last-requires
 moment-last-requires c =
     let offset : SFits w64 c.args.offset.0 = search rules in
-    rw (to_z-of_z _ _ offset) (ends-good _ (within_fact _ _ _ (tested _ _ offset c.in_ok-within.ensures))).1
+    (ends-good _ (within_fact _ _ _ (tested _ _ offset c.in_ok-within.ensures))).1
 
 pub returns-in_err-within-2 : goal.returns-in_err-within-2
 unfolding from_key
@@ -48,7 +45,7 @@ returns-in_err-within-2 c =
     let last : SFits w64 c.moment-last.result = search rules in
     let at : SFits w64 c.floor-at.result = search rules in
     let in_offset : good_offset c.args.offset.0 ≡ true = tested _ _ offset c.in_ok-within.ensures in
-    let r = range_is key offset first last at c.moment-first.ensures c.moment-last.ensures c.floor-at.ensures c.in_err-within-2.ensures in
+    let r = range_is _ _ key first last at c.moment-first.ensures c.moment-last.ensures c.floor-at.ensures c.in_err-within-2.ensures in
     let in_day : good_day (day_of (moment_in c.args.key.0) c.args.offset.0) ≡ false = day-range _ _ ∙ r in
     rw (in_offset, in_day) (no_time_so _ c.from_residual-in_err-within-2.ensures.0)
 
@@ -60,7 +57,7 @@ ahead-local-requires c =
     let first : SFits w64 c.moment-first.result = search rules in
     let last : SFits w64 c.moment-last.result = search rules in
     let at : SFits w64 c.floor-at.result = search rules in
-    let r = range_is key offset first last at c.moment-first.ensures c.moment-last.ensures c.floor-at.ensures c.in_ok-within-2.ensures in
+    let r = range_is _ _ key first last at c.moment-first.ensures c.moment-last.ensures c.floor-at.ensures c.in_ok-within-2.ensures in
     let d = rw (to_z-of_z _ _ key) at c.floor-at.ensures in
     rw (to_z-of_z _ _ at, to_z-of_z _ _ offset, d)
     (local_fits _ _ (within_fact _ _ _ (tested _ _ offset c.in_ok-within.ensures)) (within_fact _ _ _ r))
@@ -78,7 +75,7 @@ returns c =
     let second : SFits w64 c.rest-second.result = search rules in
     let drum : SFits w64 c.rest-drum.result = search rules in
     let in_offset : good_offset c.args.offset.0 ≡ true = tested _ _ offset c.in_ok-within.ensures in
-    let r = day-range _ _ ∙ range_is key offset first last at c.moment-first.ensures c.moment-last.ensures c.floor-at.ensures c.in_ok-within-2.ensures in
+    let r = day-range _ _ ∙ range_is _ _ key first last at c.moment-first.ensures c.moment-last.ensures c.floor-at.ensures c.in_ok-within-2.ensures in
     let d = rw (to_z-of_z _ _ key) at c.floor-at.ensures in
     let n = rw (to_z-of_z _ _ key) at c.rest-drum.ensures in
     let l = rw (to_z-of_z _ _ at, to_z-of_z _ _ offset, d) at c.ahead-local.ensures in
