@@ -1,14 +1,6 @@
--- `rem_euclid` by a number that was cast, read back from its bits.
-use Rattle.std.proofs.Common.{◌∙◌, rules, SFits}
-use Rattle.std.specs.Int.{w64}
-use Rattle.std.proofs.lemmas.Int.{to_z-of_z}
+use Rattle.std.proofs.Common.{rules}
 use Rattle.due.proofs.rest.Goals as goal
-use Rattle.due.proofs.Sizes.{wide_reads}
-use Rattle.due.proofs.Euclid.{rest_is}
+use Rattle.due.proofs.Euclid.{rest_reads}
 
 pub returns : goal.returns
-returns c =
-    let f = c.ranges in
-    let given : SFits w64 c.rem_euclid.result = search rules in
-    let e = rw (to_z-of_z _ _ f.z, wide_reads f.k) at c.rem_euclid.ensures.value in
-    to_z-of_z _ _ given ∙ e ∙ rest_is _ _
+returns c = search (rules, rest_reads)
