@@ -11,11 +11,10 @@ use listing::walking::{Walk, Walked};
 use listing::{chain_length, key_and_value, rank};
 use output::out;
 use output::out::ROOM;
-use script::table;
-use script::table::TABLE;
+use script::table::Table;
 
 // Dumps into the buffer, where the header passes. Answers whether it does.
-pub fn dump(s: &[u64], t: &[u64; TABLE], o: &mut [u8; ROOM], at: &mut usize) -> bool {
+pub fn dump(s: &[u64], t: &Table, o: &mut [u8; ROOM], at: &mut usize) -> bool {
     let h = header::test(s);
     match h {
         Header::Passes(cap) => {
@@ -28,7 +27,7 @@ pub fn dump(s: &[u64], t: &[u64; TABLE], o: &mut [u8; ROOM], at: &mut usize) -> 
 }
 
 // `dump LIVE root N first N last N`
-fn ends(s: &[u64], cap: u64, t: &[u64; TABLE], o: &mut [u8; ROOM], at: &mut usize)
+fn ends(s: &[u64], cap: u64, t: &Table, o: &mut [u8; ROOM], at: &mut usize)
     requires { Room s.now cap }
 {
     let root = words::head(s, ROOT);
@@ -46,15 +45,15 @@ fn ends(s: &[u64], cap: u64, t: &[u64; TABLE], o: &mut [u8; ROOM], at: &mut usiz
 }
 
 // A space, and the number of the insertion whose entry is in a slot, or `-` for no slot.
-fn link(t: &[u64; TABLE], o: &mut [u8; ROOM], at: &mut usize, slot: u64) {
+fn link(t: &Table, o: &mut [u8; ROOM], at: &mut usize, slot: u64) {
     if slot == Handle::NO_SLOT {
         out::text(o, at, b" -");
     } else {
-        out::more(o, at, table::number_of(t, slot));
+        out::more(o, at, t.number_of(slot));
     }
 }
 
-fn dump_entries(s: &[u64], cap: u64, t: &[u64; TABLE], o: &mut [u8; ROOM], at: &mut usize)
+fn dump_entries(s: &[u64], cap: u64, t: &Table, o: &mut [u8; ROOM], at: &mut usize)
     requires { Room s.now cap }
 {
     let mut w = Walk::first(s, cap);
@@ -68,11 +67,11 @@ fn dump_entries(s: &[u64], cap: u64, t: &[u64; TABLE], o: &mut [u8; ROOM], at: &
 }
 
 // `N KEY VALUE RANK BACK LEFT RIGHT PREV NEXT`
-fn dump_entry(s: &[u64], cap: u64, h: Handle, t: &[u64; TABLE], o: &mut [u8; ROOM], at: &mut usize)
+fn dump_entry(s: &[u64], cap: u64, h: Handle, t: &Table, o: &mut [u8; ROOM], at: &mut usize)
     requires { Room s.now cap }
 {
     let i = h.slot.0;
-    out::number(o, at, table::number_of(t, i));
+    out::number(o, at, t.number_of(i));
     out::byte(o, at, b' ');
     key_and_value(s, h, o, at);
     rank(s, cap, i, o, at);
@@ -80,7 +79,7 @@ fn dump_entry(s: &[u64], cap: u64, h: Handle, t: &[u64; TABLE], o: &mut [u8; ROO
     out::byte(o, at, b'\n');
 }
 
-fn links(s: &[u64], cap: u64, i: u64, t: &[u64; TABLE], o: &mut [u8; ROOM], at: &mut usize)
+fn links(s: &[u64], cap: u64, i: u64, t: &Table, o: &mut [u8; ROOM], at: &mut usize)
     requires { Room s.now cap }
 {
     if i < cap {

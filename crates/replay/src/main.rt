@@ -4,21 +4,16 @@
 
 mod dumping;
 
-ghost use Rattle.std.specs.Prelude.{length};
-ghost use Rattle.input.specs.inner.Lines.{LineFits};
-
 use answers::answer;
 use answers::answer::Answer;
 use arena::words::STORE;
 use handle::Refusal;
-use input::lines;
-use input::lines::{Line, PART, Reader};
+use input::lines::{Line, Reader};
 use output::out;
 use output::out::{ROOM, STANDARD_ERROR};
 use script::command;
 use script::command::Command;
-use script::table::TABLE;
-use std::io::Stdin;
+use script::table::Table;
 
 // The longest line that is read.
 const LONGEST: usize = 128;
@@ -27,7 +22,7 @@ const LONGEST: usize = 128;
 fn respond(
     c: Command,
     s: &mut [u64; STORE],
-    t: &mut [u64; TABLE],
+    t: &mut Table,
     o: &mut [u8; ROOM],
     at: &mut usize,
 ) {
@@ -54,28 +49,20 @@ fn refuse_unless(is_passed: bool, o: &mut [u8; ROOM], at: &mut usize) {
     }
 }
 
-// Serves a line that was read into `line`, and says whether more may follow.
+// Serves what a call of the reader came to, and says whether more may follow.
 fn serve_line(
-    got: Line,
-    line: &[u8],
+    got: Line<'_>,
     s: &mut [u64; STORE],
-    t: &mut [u64; TABLE],
+    t: &mut Table,
     o: &mut [u8; ROOM],
     at: &mut usize,
-) -> bool
-    requires { LineFits got (length line.now) }
-{
+) -> bool {
     match got {
-        Line::Whole(n) => {
-            let c = command::read(&line[0..n]);
-            respond(c, s, t, o, at);
-        }
+        Line::Whole(text) => respond(command::read(text), s, t, o, at),
         Line::TooLong => respond(Command::Bad, s, t, o, at),
         Line::Begun => {}
         Line::Failed => tell_failed(),
-        Line::End => {
-            return false;
-        }
+        Line::End => return false,
     }
     true
 }
@@ -87,45 +74,30 @@ fn tell_failed() {
     );
 }
 
-// A proved loop has to end, and nothing says that the input does: so it counts its turns down from a number that no run uses up.
+// A proved loop has to end, and nothing says that the input does: so it has more turns than any run uses up.
 fn serve_all(
-    input: Stdin,
-    part: &mut [u8; PART],
-    line: &mut [u8],
+    reader: &mut Reader<'_>,
     s: &mut [u64; STORE],
-    t: &mut [u64; TABLE],
+    t: &mut Table,
     o: &mut [u8; ROOM],
     at: &mut usize,
 ) {
-    let mut reader = Reader::new();
-    let mut turns = u64::MAX;
-    while 0 < turns {
-        let read = lines::next(input, part, reader, line);
-        let got = read.line;
-        if !serve_line(got, line, s, t, o, at) {
+    for _ in 0..u64::MAX {
+        if !serve_line(reader.next(), s, t, o, at) {
             break;
         }
-        reader = read.reader;
-        turns -= 1;
     }
 }
 
 fn main(rt: HostRuntime) {
     let mut part = io::large_buffer();
     let mut line = [0u8; LONGEST];
+    let mut reader = Reader::new(rt.stdin(), &mut part, &mut line);
     // Zeros are no laid out store: until the first `new` every call finds that its header fails.
     let mut s = [0u64; STORE];
-    let mut t = [0u64; TABLE];
+    let mut t = Table::new();
     let mut o = io::large_buffer();
     let mut at: usize = 0;
-    serve_all(
-        rt.stdin(),
-        &mut part,
-        &mut line,
-        &mut s,
-        &mut t,
-        &mut o,
-        &mut at,
-    );
+    serve_all(&mut reader, &mut s, &mut t, &mut o, &mut at);
     out::flush(&mut o, &mut at);
 }

@@ -8,10 +8,10 @@ mod placing;
 use answers::answer::Answer;
 use arena::words::STORE;
 use script::command::Command;
-use script::table::TABLE;
+use script::table::Table;
 
 // The answer of a command. `list` and `dump` have none here: theirs are many lines, which the program writes as it finds them.
-pub fn carry_out(c: Command, s: &mut [u64; STORE], t: &mut [u64; TABLE]) -> Answer {
+pub fn carry_out(c: Command, s: &mut [u64; STORE], t: &mut Table) -> Answer {
     match c {
         Command::Nothing => Answer::Nothing,
         Command::Bad => Answer::BadLine,
@@ -24,7 +24,7 @@ pub fn carry_out(c: Command, s: &mut [u64; STORE], t: &mut [u64; TABLE]) -> Answ
 }
 
 // The commands that change nothing.
-fn look(c: Command, s: &[u64; STORE], t: &[u64; TABLE]) -> Answer {
+fn look(c: Command, s: &[u64; STORE], t: &Table) -> Answer {
     match c {
         Command::Ahead(place, key) => looking::ahead(s, t, place, key),
         Command::Get(n) => looking::get(s, t, n),

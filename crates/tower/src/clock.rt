@@ -1,5 +1,5 @@
 // The tower's clock: the day of this evening, its offset and its drums, and times and strikes as a clockmaker writes them.
-use due::{DRUM_HIGH, Drum, Offset, Second, Time, TimeAnswer};
+use due::{BadTime, DRUM_HIGH, Drum, Offset, Second, Time};
 use handle::{Entry, Refusal};
 use output::{say, signs};
 
@@ -89,8 +89,8 @@ pub fn strokes(at: OnDrum, n: u64) {
 pub fn strike(e: Entry) {
     let answer = due::time_of(e.key, Offset(OFFSET));
     match answer {
-        TimeAnswer::At(t, drum) => due_at(t, drum, e.value),
-        TimeAnswer::BadTime => say::refused(Refusal::BadTime),
+        Ok((t, drum)) => due_at(t, drum, e.value),
+        Err(BadTime) => say::refused(Refusal::BadTime),
     }
 }
 

@@ -1,7 +1,7 @@
 // Laying out and planning: each call is told in one line, what was asked for and what the queue answered.
 use crate::clock;
 use crate::clock::OnDrum;
-use due::{Day, KeyAnswer, Offset, Time};
+use due::{BadTime, Day, Offset, Time};
 use handle::{Handle, Inserted, Key, LaidOut, Refusal, Side};
 use output::say;
 use queue::placing;
@@ -39,13 +39,13 @@ pub fn plan(s: &mut [u64], at: OnDrum, strokes: u64) -> Handle {
 pub fn plan_so(s: &mut [u64], way: Way, at: OnDrum, strokes: u64) -> Handle {
     asked(way, at, strokes);
     match key_of(at) {
-        KeyAnswer::At(k) => told(place(s, way, k, strokes)),
-        KeyAnswer::BadTime => told(Inserted::Refused(Refusal::BadTime)),
+        Ok(k) => told(place(s, way, k, strokes)),
+        Err(BadTime) => told(Inserted::Refused(Refusal::BadTime)),
     }
 }
 
 // The key of a time of this evening's day.
-fn key_of(at: OnDrum) -> KeyAnswer {
+fn key_of(at: OnDrum) -> Result<Key, BadTime> {
     let second = at.second;
     let time = Time {
         day: Day(clock::DAY),
