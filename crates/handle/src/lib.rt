@@ -3,6 +3,8 @@
 // From the Rust: fundamental/ptr.rs (Ptr, its index and its generation) and fundamental/errors.rs.
 #![tactic(auto)]
 
+mod showing;
+
 ghost use Rattle.std.specs.Prelude.{◌≡◌};
 ghost use Rattle.handle.specs.Numbers.{no_slot, first_generation, refusal_number};
 
@@ -13,11 +15,11 @@ pub const LIMIT: u64 = 1024;
 pub const TOP_LIMIT: u64 = 4294967295;
 
 // A place for one entry in the store: 0 and up, below the capacity.
-#[derive(Clone, Copy)]
+#[derive(Clone, Copy, Debug, PartialEq, Eq)]
 pub struct Slot(pub u64);
 
 // Which life of its slot an entry is: 1 at first, one more after each removal.
-#[derive(Clone, Copy)]
+#[derive(Clone, Copy, Debug, PartialEq, Eq)]
 pub struct Generation(pub u64);
 
 // Where an entry stands in the queue's order: any signed 64-bit number.
@@ -25,7 +27,7 @@ pub struct Generation(pub u64);
 pub struct Key(pub i64);
 
 // What names one entry for good: its slot, and the generation of the slot that it lives in.
-#[derive(Clone, Copy)]
+#[derive(Clone, Copy, Debug, PartialEq, Eq)]
 pub struct Handle {
     pub slot: Slot,
     pub generation: Generation,
