@@ -7,70 +7,60 @@ mod dumping;
 ghost use Rattle.std.specs.Prelude.{length};
 ghost use Rattle.input.specs.inner.Lines.{LineFits};
 
-use answers::answer;
 use answers::answer::Answer;
-use arena::words::STORE;
+use dumping::Dump;
 use handle::Refusal;
 use input::lines;
 use input::lines::{Line, PART, Reader};
-use output::out;
-use output::out::{ROOM, STANDARD_ERROR};
+use listing::Listing;
+use output::out::{Out, STANDARD_ERROR};
 use script::command;
 use script::command::Command;
-use script::table::TABLE;
+use serve::Served;
+use std::fmt::Display;
 use std::io::Stdin;
 
 // The longest line that is read.
 const LONGEST: usize = 128;
 
 // Carries a command out and writes its answer.
-fn respond(
-    c: Command,
-    s: &mut [u64; STORE],
-    t: &mut [u64; TABLE],
-    o: &mut [u8; ROOM],
-    at: &mut usize,
-) {
-    match c {
-        Command::List => {
-            let is_passed = listing::list(s, o, at);
-            refuse_unless(is_passed, o, at);
-        }
-        Command::Dump => {
-            let is_passed = dumping::dump(s, t, o, at);
-            refuse_unless(is_passed, o, at);
-        }
-        _ => {
-            let a = serve::carry_out(c, s, t);
-            answer::write(o, at, a);
-        }
-    }
+fn respond(c: Command, served: &mut Served, out: &mut Out) {
+    let answer = match c {
+        Command::Nothing => Answer::Nothing,
+        Command::Bad => Answer::BadLine,
+        Command::Unknown => Answer::Unknown,
+        Command::New(capacity, top) => served.lay_out(capacity, top),
+        Command::Insert(place, key, value) => served.insert(place, key, value),
+        Command::Ahead(place, key) => served.look_ahead(place, key),
+        Command::Remove(n) => served.remove(n),
+        Command::Get(n) => served.get(n),
+        Command::Find(key) => served.find(key),
+        Command::Next(n) => served.next(n),
+        Command::Prev(n) => served.prev(n),
+        Command::First => served.first(),
+        Command::Last => served.last(),
+        Command::List => return show(Listing::of(&served.store), out),
+        Command::Dump => return show(Dump::of(&served.store, &served.table), out),
+        Command::Check => served.check(),
+    };
+    write!(out, "{answer}");
 }
 
-// Where the header fails, nothing is written but the refusal.
-fn refuse_unless(is_passed: bool, o: &mut [u8; ROOM], at: &mut usize) {
-    if !is_passed {
-        answer::write(o, at, Answer::Refused(Refusal::NotSound));
+// Writes what takes many lines. Where the header fails, nothing is written but the refusal.
+fn show<D: Display + Drop>(shown: Result<D, Refusal>, out: &mut Out) {
+    match shown {
+        Ok(lines) => write!(out, "{lines}"),
+        Err(r) => write!(out, "{}", Answer::Refused(r)),
     }
 }
 
 // Serves a line that was read into `line`, and says whether more may follow.
-fn serve_line(
-    got: Line,
-    line: &[u8],
-    s: &mut [u64; STORE],
-    t: &mut [u64; TABLE],
-    o: &mut [u8; ROOM],
-    at: &mut usize,
-) -> bool
+fn serve_line(got: Line, line: &[u8], served: &mut Served, out: &mut Out) -> bool
     requires { LineFits got (length line.now) }
 {
     match got {
-        Line::Whole(n) => {
-            let c = command::read(&line[0..n]);
-            respond(c, s, t, o, at);
-        }
-        Line::TooLong => respond(Command::Bad, s, t, o, at),
+        Line::Whole(n) => respond(command::read(&line[0..n]), served, out),
+        Line::TooLong => respond(Command::Bad, served, out),
         Line::Begun => {}
         Line::Failed => tell_failed(),
         Line::End => {
@@ -87,45 +77,29 @@ fn tell_failed() {
     );
 }
 
-// A proved loop has to end, and nothing says that the input does: so it counts its turns down from a number that no run uses up.
+// A proved loop has to end, and nothing says that the input does: so it counts its turns, to a number that no run reaches.
 fn serve_all(
     input: Stdin,
     part: &mut [u8; PART],
     line: &mut [u8],
-    s: &mut [u64; STORE],
-    t: &mut [u64; TABLE],
-    o: &mut [u8; ROOM],
-    at: &mut usize,
+    served: &mut Served,
+    out: &mut Out,
 ) {
     let mut reader = Reader::new();
-    let mut turns = u64::MAX;
-    while 0 < turns {
+    for _ in 0..u64::MAX {
         let read = lines::next(input, part, reader, line);
-        let got = read.line;
-        if !serve_line(got, line, s, t, o, at) {
+        if !serve_line(read.line, line, served, out) {
             break;
         }
         reader = read.reader;
-        turns -= 1;
     }
 }
 
 fn main(rt: HostRuntime) {
     let mut part = io::large_buffer();
     let mut line = [0u8; LONGEST];
-    // Zeros are no laid out store: until the first `new` every call finds that its header fails.
-    let mut s = [0u64; STORE];
-    let mut t = [0u64; TABLE];
-    let mut o = io::large_buffer();
-    let mut at: usize = 0;
-    serve_all(
-        rt.stdin(),
-        &mut part,
-        &mut line,
-        &mut s,
-        &mut t,
-        &mut o,
-        &mut at,
-    );
-    out::flush(&mut o, &mut at);
+    let mut served = Served::new();
+    let mut out = Out::new();
+    serve_all(rt.stdin(), &mut part, &mut line, &mut served, &mut out);
+    out.flush();
 }

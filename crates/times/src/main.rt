@@ -12,7 +12,7 @@ ghost use Rattle.input.specs.inner.Lines.{LineFits};
 use due::{KeyAnswer, TimeAnswer};
 use input::lines;
 use input::lines::{Line, PART, Reader};
-use output::say;
+use output::{console, say, say_line};
 use std::io::Stdin;
 use text::Asked;
 
@@ -21,37 +21,31 @@ const LINE: usize = 96;
 
 fn show_key(a: KeyAnswer) {
     match a {
-        KeyAnswer::At(key) => say::signed(key.0),
-        KeyAnswer::BadTime => say::text(b"refused 6"),
+        KeyAnswer::At(key) => say!("{key}"),
+        KeyAnswer::BadTime => say!("refused 6"),
     }
 }
 
 fn show_time(a: TimeAnswer) {
     match a {
-        TimeAnswer::At(t, drum) => {
-            say::signed(t.day.0);
-            say::text(b" ");
-            say::signed(t.second.0);
-            say::text(b" ");
-            say::signed(drum.0);
-        }
-        TimeAnswer::BadTime => say::text(b"refused 6"),
+        TimeAnswer::At(t, drum) => say!("{} {} {}", t.day.0, t.second.0, drum.0),
+        TimeAnswer::BadTime => say!("refused 6"),
     }
 }
 
 fn answer(line: &[u8]) {
-    say::text(line);
+    console::bytes(line);
     if text::is_remark(line) {
-        say::text(b"\n");
+        say_line!("");
         return;
     }
-    say::text(b" -> ");
+    say!(" -> ");
     match text::question(line) {
         Asked::Key(time, offset, drum) => show_key(due::key_of(time, offset, drum)),
         Asked::Time(key, offset) => show_time(due::time_of(key, offset)),
-        Asked::Nothing => say::text(b"no question"),
+        Asked::Nothing => say!("no question"),
     }
-    say::text(b"\n");
+    say_line!("");
 }
 
 // Answers a line that was read into `line`, and says whether more may follow.
@@ -60,7 +54,7 @@ fn answer_line(got: Line, line: &[u8]) -> bool
 {
     match got {
         Line::Whole(n) => answer(&line[0..n]),
-        Line::TooLong => say::text(b"(a line that is too long) -> no question\n"),
+        Line::TooLong => say_line!("(a line that is too long) -> no question"),
         Line::Begun | Line::Failed => {}
         Line::End => {
             return false;
