@@ -34,7 +34,7 @@ fn strike(s: &mut [u64], k: i64, value: u64) {
     };
 }
 
-fn run(s: &mut [u64; WIDE]) {
+fn run(s: &mut [u64]) {
     lay(s, 0, 3);
     lay(s, LIMIT + 1, 3);
     lay(s, 1, 3);
@@ -47,7 +47,6 @@ fn run(s: &mut [u64; WIDE]) {
     listing::print(s);
 }
 
-// A large array is lent whole: where `main` makes a slice of it, the prover counts it out.
 fn main() {
     let mut s = [0u64; WIDE];
     let mut large = [7u64; WIDE];

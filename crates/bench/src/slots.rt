@@ -1,5 +1,5 @@
 // Lays out stores of several sizes, takes and frees slots to exhaustion and to retirement, and writes what it saw.
-use crate::{WIDE, tell_laid};
+use crate::tell_laid;
 use arena::header::Header;
 use arena::slots::{Freed, Taken};
 use arena::words::STORE;
@@ -98,7 +98,7 @@ fn lay_short(s: &mut [u64]) {
 }
 
 // What laying out refuses, and the most slots taken to the last.
-pub fn most_slots(s: &mut [u64; WIDE]) {
+pub fn most_slots(s: &mut [u64]) {
     lay(s, 0, 3);
     lay(s, LIMIT + 1, 3);
     lay(s, LIMIT, 0);

@@ -31,16 +31,12 @@ pub struct Planned {
 // Words for one slot more than the limit, so that it is the limit that refuses it.
 const WIDE: usize = STORE + FIELDS as usize;
 
-fn lay_wide(s: &mut [u64; WIDE]) {
-    lay(s, LIMIT + 1, 9);
-}
-
 pub fn lay_out(s: &mut Store) {
     let mut wide = [0u64; WIDE];
     say_line!("A queue is laid out. Before that no strike can be planned.");
     plan(s, OnDrum::hour(SIX), 6);
     lay(s, 0, 9);
-    lay_wide(&mut wide);
+    lay(&mut wide, LIMIT + 1, 9);
     lay(s, 7, 9);
     lay(s, 6, 9);
 }

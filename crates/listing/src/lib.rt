@@ -27,11 +27,11 @@ pub fn print(store: &[u64]) {
 }
 
 // A store whose header passes, to be listed.
-#[derive(Drop)]
+#[derive(Clone, Copy)]
 pub struct Listing<'a> {
-    store: &'a [u64],
-    capacity: u64,
-    ghost room: { Room store.now capacity },
+    pub store: &'a [u64],
+    pub capacity: u64,
+    pub ghost room: { Room store.now capacity },
 }
 
 impl<'a> Listing<'a> {
@@ -42,9 +42,40 @@ impl<'a> Listing<'a> {
         }
     }
 
+    // The handles of the entries in order. No chain has more entries than slots.
+    pub fn entries(&self) -> Walk<'a> {
+        Walk::first(self.store, self.capacity)
+    }
+
+    // How many entries the chain has.
+    pub fn live(&self) -> u64 {
+        self.entries().count() as u64
+    }
+
+    // The key and the value of an entry, or the number of the refusal.
+    pub fn key_and_value<W: fmt::Write>(&self, h: Handle, f: &mut Formatter<W>) -> fmt::Result {
+        match looking::read(self.store, h) {
+            Reading::Entry(e) => write!(f, "{e}"),
+            Reading::Refused(r) => write!(f, "{}", r.number()),
+        }
+    }
+
+    // A space, and the rank of a slot.
+    pub fn rank<W: fmt::Write>(&self, slot: u64, f: &mut Formatter<W>) -> fmt::Result {
+        if slot < self.capacity {
+            write!(
+                f,
+                " {}",
+                words::field(self.store, self.capacity, slot, RANK)
+            )
+        } else {
+            Ok(())
+        }
+    }
+
     // `live L free F retired R`: a slot that is neither live nor free is retired.
     fn counts<W: fmt::Write>(&self, f: &mut Formatter<W>) -> fmt::Result {
-        let live = chain_length(self.store, self.capacity);
+        let live = self.live();
         let free = words::head(self.store, HEIGHT);
         let retired = self.capacity.saturating_sub(live).saturating_sub(free);
         writeln!(f, "live {live} free {free} retired {retired}")
@@ -52,9 +83,9 @@ impl<'a> Listing<'a> {
 
     // `KEY VALUE SLOT GENERATION RANK`
     fn entry<W: fmt::Write>(&self, h: Handle, f: &mut Formatter<W>) -> fmt::Result {
-        key_and_value(self.store, h, f)?;
+        self.key_and_value(h, f)?;
         write!(f, " {} {}", h.slot.0, h.generation.0)?;
-        rank(self.store, self.capacity, h.slot.0, f)?;
+        self.rank(h.slot.0, f)?;
         writeln!(f)
     }
 }
@@ -62,37 +93,9 @@ impl<'a> Listing<'a> {
 impl<'a> Display for Listing<'a> {
     fn fmt<W: fmt::Write>(&self, f: &mut Formatter<W>) -> fmt::Result {
         self.counts(f)?;
-        for h in Walk::first(self.store, self.capacity) {
+        for h in self.entries() {
             self.entry(h, f)?;
         }
         Ok(())
     }
-}
-
-// How many entries the chain has, counted up to `most`.
-pub fn chain_length(store: &[u64], most: u64) -> u64 {
-    Walk::first(store, most).count() as u64
-}
-
-// The key and the value of an entry, or the number of the refusal.
-pub fn key_and_value<W: fmt::Write>(store: &[u64], h: Handle, f: &mut Formatter<W>) -> fmt::Result {
-    match looking::read(store, h) {
-        Reading::Entry(e) => write!(f, "{e}"),
-        Reading::Refused(r) => write!(f, "{}", r.number()),
-    }
-}
-
-// A space, and the rank of a slot.
-pub fn rank<W: fmt::Write>(
-    store: &[u64],
-    capacity: u64,
-    slot: u64,
-    f: &mut Formatter<W>,
-) -> fmt::Result
-    requires { Room store.now capacity }
-{
-    if slot < capacity {
-        return write!(f, " {}", words::field(store, capacity, slot, RANK));
-    }
-    Ok(())
 }

@@ -1,14 +1,11 @@
 // A script's `dump`: the entries in order, walked by the cursor, with ranks and links as the store has them.
 // Entries are named by the numbers of their insertions. `{}` writes it, in many lines.
 ghost use Rattle.std.specs.Prelude.{◌<◌};
-ghost use Rattle.arena.specs.Words.{Room};
 
-use arena::header::Header;
+use arena::words;
 use arena::words::{BACK, FIRST, LAST, LEFT, NEXT, PREV, RIGHT, ROOT};
-use arena::{header, words};
 use handle::{Handle, Refusal};
-use listing::walking::Walk;
-use listing::{chain_length, key_and_value, rank};
+use listing::Listing;
 use script::table;
 use script::table::TABLE;
 use std::fmt;
@@ -17,42 +14,50 @@ use std::fmt::{Display, Formatter};
 // A store whose header passes, to be dumped, and the table of insertions' numbers.
 #[derive(Drop)]
 pub struct Dump<'a> {
-    store: &'a [u64],
-    capacity: u64,
+    listing: Listing<'a>,
     table: &'a [u64; TABLE],
-    ghost room: { Room store.now capacity },
 }
 
 impl<'a> Dump<'a> {
     pub fn of(store: &'a [u64], table: &'a [u64; TABLE]) -> Result<Dump<'a>, Refusal> {
-        match header::test(store) {
-            Header::Passes(capacity) => Ok(Dump {
-                store,
-                capacity,
-                table,
-            }),
-            Header::Fails => Err(Refusal::NotSound),
-        }
+        let listing = Listing::of(store)?;
+        Ok(Dump { listing, table })
     }
 
     // `dump LIVE root N first N last N`
     fn ends<W: fmt::Write>(&self, f: &mut Formatter<W>) -> fmt::Result {
-        write!(f, "dump {}", chain_length(self.store, self.capacity))?;
-        write!(f, " root {}", self.link(words::head(self.store, ROOT)))?;
-        write!(f, " first {}", self.link(words::head(self.store, FIRST)))?;
-        writeln!(f, " last {}", self.link(words::head(self.store, LAST)))
+        write!(f, "dump {}", self.listing.live())?;
+        write!(
+            f,
+            " root {}",
+            self.link(words::head(self.listing.store, ROOT))
+        )?;
+        write!(
+            f,
+            " first {}",
+            self.link(words::head(self.listing.store, FIRST))
+        )?;
+        writeln!(
+            f,
+            " last {}",
+            self.link(words::head(self.listing.store, LAST))
+        )
     }
 
     // `N KEY VALUE RANK BACK LEFT RIGHT PREV NEXT`
     fn entry<W: fmt::Write>(&self, h: Handle, f: &mut Formatter<W>) -> fmt::Result {
         let slot = h.slot.0;
         write!(f, "{} ", table::number_of(self.table, slot))?;
-        key_and_value(self.store, h, f)?;
-        rank(self.store, self.capacity, slot, f)?;
-        if slot < self.capacity {
+        self.listing.key_and_value(h, f)?;
+        self.listing.rank(slot, f)?;
+        let Listing { store, capacity } = self.listing;
+        if slot < capacity {
             for field in [BACK, LEFT, RIGHT, PREV, NEXT] {
-                let other = words::field(self.store, self.capacity, slot, field);
-                write!(f, " {}", self.link(other))?;
+                write!(
+                    f,
+                    " {}",
+                    self.link(words::field(store, capacity, slot, field))
+                )?;
             }
         }
         writeln!(f)
@@ -70,7 +75,7 @@ impl<'a> Dump<'a> {
 impl<'a> Display for Dump<'a> {
     fn fmt<W: fmt::Write>(&self, f: &mut Formatter<W>) -> fmt::Result {
         self.ends(f)?;
-        for h in Walk::first(self.store, self.capacity) {
+        for h in self.listing.entries() {
             self.entry(h, f)?;
         }
         Ok(())
