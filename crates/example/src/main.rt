@@ -8,6 +8,13 @@ use queue::{looking, placing, taking};
 use std::io;
 use std::io::Print;
 
+fn laid_out(rt: &impl Print, answer: LaidOut) -> io::Result<()> {
+    match answer {
+        LaidOut::Done => println!(rt; "8 slots are laid out"),
+        LaidOut::Refused(r) => println!(rt; "{} is why no queue was laid out", r.number()),
+    }
+}
+
 fn planned(rt: &impl Print, answer: Inserted) -> io::Result<()> {
     match answer {
         Inserted::New(h) => println!(rt; "{} is the slot of a new strike", h.slot.0),
@@ -37,10 +44,7 @@ fn cancelled(rt: &impl Print, answer: Removed) -> io::Result<()> {
 
 fn main(rt: HostRuntime) -> io::Result<()> {
     let mut s = [0u64; 96]; // as many as numbers_needed(8) tells
-    match placing::lay_out(&mut s, 8, 9) {
-        LaidOut::Done => println!(rt; "8 slots are laid out")?,
-        LaidOut::Refused(r) => println!(rt; "{} is why no queue was laid out", r.number())?,
-    }
+    laid_out(&rt, placing::lay_out(&mut s, 8, 9))?;
     let half = placing::insert(&mut s, Key(66_600), 2);
     planned(&rt, half)?;
     planned(&rt, placing::insert(&mut s, Key(64_800), 6))?;
