@@ -42,23 +42,28 @@ fn cancelled(rt: &impl Print, answer: Removed) -> io::Result<()> {
     }
 }
 
-fn main(rt: HostRuntime) -> io::Result<()> {
+fn run(rt: &impl Print) -> io::Result<()> {
     let mut s = [0u64; 96]; // as many as numbers_needed(8) tells
-    laid_out(&rt, placing::lay_out(&mut s, 8, 9))?;
+    laid_out(rt, placing::lay_out(&mut s, 8, 9))?;
     let half = placing::insert(&mut s, Key(66_600), 2);
-    planned(&rt, half)?;
-    planned(&rt, placing::insert(&mut s, Key(64_800), 6))?;
-    planned(&rt, placing::insert(&mut s, Key(64_800), 7))?; // the same key: the value is replaced
+    planned(rt, half)?;
+    planned(rt, placing::insert(&mut s, Key(64_800), 6))?;
+    planned(rt, placing::insert(&mut s, Key(64_800), 7))?; // the same key: the value is replaced
     let Inserted::New(h) = half else {
         return Ok(())
     };
-    reached(&rt, Cursor::first(&s))?;
-    reached(&rt, Cursor { handle: h }.forward(&s))?;
-    cancelled(&rt, taking::remove(&mut s, h))?;
+    reached(rt, Cursor::first(&s))?;
+    reached(rt, Cursor { handle: h }.forward(&s))?;
+    cancelled(rt, taking::remove(&mut s, h))?;
     match looking::search(&s, Key(66_600)) {
         Searched::Equal(h, _) => println!(rt; "{} is the slot of the strike found", h.slot.0),
         Searched::Beside(h, _, _) => println!(rt; "{} is the slot beside; it is absent", h.slot.0),
         Searched::Empty(n) => println!(rt; "{n} strikes are planned"),
         Searched::Refused(r) => println!(rt; "{} is why nothing was searched", r.number()),
     }
+}
+
+// What the system does not take is lost: nothing else can be done about it here.
+fn main(rt: HostRuntime) {
+    let _ = run(&rt);
 }
