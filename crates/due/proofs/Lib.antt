@@ -8,6 +8,6 @@ pub mod Drums
 pub mod Times
 pub mod Runs
 pub mod Sizes
-pub mod Mended
+pub mod Euclid
 pub mod NoOverflow
 pub mod Single

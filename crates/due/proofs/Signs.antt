@@ -8,6 +8,8 @@ use native.Mathlib.Omega.{arith}
 use lib.Dec.{T, leb, ltb}
 use lib.IntN.{ℤ, pos, negsuc, neg_ℤ, sub_ℕ, ◌+ℤ◌, ◌-ℤ◌, ◌*ℤ◌}
 use lib.Signed.{le_z, lt_z, ◌≤ℤ◌, ◌<ℤ◌}
+use Rattle.std.specs.Ordering.{is_le, int_cmp}
+use Rattle.std.specs.declared.cmp.Ordering.TheVariants.{Less, Equal, Greater}
 use borrow.Author.Tests.{ltb-true, ltb-false, leb-true, leb-false, le-leb, lt-leb, lt-ltb}
 
 abbrev pub up : ℤ → ℕ
@@ -108,6 +110,15 @@ lt_z_false a b e = ltb-false _ _ (sym (lt_z_is a b) ∙ e)
 
 pub le_out : {a b : ℤ} → a ≤ℤ b → up a + down b ≤ up b + down a
 le_out {a} {b} h = leb-true _ _ (sym (le_z_is a b) ∙ yes→true (le_z a b) h.le)
+
+-- and what `<=` answers by the library's order is this test
+pub le_of_cmp : (a b : ℤ) → is_le (int_cmp a b) ≡ le_z a b
+le_of_cmp a b = go (lt_z a b) (lt_z b a) refl refl ∙ sym (le_z_is a b)
+  where
+    go : (s t : Bool) → lt_z a b ≡ s → lt_z b a ≡ t → is_le (cond s Less (cond t Greater Equal)) ≡ leb (up a + down b) (up b + down a)
+    go true t p q = let l = lt_z_true a b p in sym (le-leb _ _ (omega arith))
+    go false true p q = sym (lt-leb _ _ (lt_z_true b a q))
+    go false false p q = sym (le-leb _ _ (lt_z_false b a q))
 
 pub le_in : (a b : ℤ) → up a + down b ≤ up b + down a → a ≤ℤ b
 le_in a b h = record { le = true→yes (le_z_is a b ∙ le-leb _ _ h) }

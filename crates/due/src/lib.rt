@@ -3,14 +3,17 @@
 // say; nothing overflows on any numbers. Each field is a type of its own, so that none can be passed for another.
 #![tactic(auto)]
 
-ghost use Rattle.std.specs.Prelude.{◌≡◌, ◌<◌, pos, ◌+ℤ◌, ◌-ℤ◌, ◌*ℤ◌};
+ghost use Rattle.std.specs.Prelude.{◌≡◌, ◌<◌, is_ok, pos, ◌+ℤ◌, ◌-ℤ◌, ◌*ℤ◌};
 ghost use Rattle.std.specs.Int.{w64};
 ghost use Rattle.std.proofs.Common.{SFits};
+ghost use Rattle.handle.specs.declared.Refusal.TheVariants as R;
 ghost use Rattle.due.specs.Due.{within, GoodTime, moment_of, to_key, from_key};
 ghost use Rattle.due.specs.Floor.{floor_div, floor_mod};
 ghost use Rattle.due.specs.TimeAnswers.{key_found, time_found};
 
-use handle::Key;
+use handle::{Key, Refusal};
+use std::error::Error;
+use std::fmt;
 
 // The ranges of the fields, both ends included: document 01's, and request 1's of the drum.
 pub const DAY_LOW: i64 = -1_000_000;
@@ -30,72 +33,84 @@ pub const DRUM_LOW: i64 = 0;
 pub const DRUM_HIGH: i64 = 7;
 
 // Days from 1970-01-01, by the clock at some offset.
-#[derive(Clone, Copy)]
+#[derive(Clone, Copy, Debug, PartialEq, Eq)]
 pub struct Day(pub i64);
 
 // Seconds into such a day.
-#[derive(Clone, Copy)]
+#[derive(Clone, Copy, Debug, PartialEq, Eq)]
 pub struct Second(pub i64);
 
 // How many seconds east of Greenwich a clock runs.
-#[derive(Clone, Copy)]
+#[derive(Clone, Copy, Debug, PartialEq, Eq)]
 pub struct Offset(pub i64);
 
 // Which drum strikes. Of two at one second the lower strikes first.
-#[derive(Clone, Copy)]
+#[derive(Clone, Copy, Debug, PartialEq, Eq)]
 pub struct Drum(pub i64);
 
 // A local time.
-#[derive(Clone, Copy)]
+#[derive(Clone, Copy, Debug, PartialEq, Eq)]
 pub struct Time {
     pub day: Day,
     pub second: Second,
 }
 
-// The key, or refusal 6.
-#[derive(Clone, Copy)]
-pub enum KeyAnswer {
-    At(Key),
-    BadTime,
-}
+// The first and the last local time.
+const FIRST: Time = Time {
+    day: Day(DAY_LOW),
+    second: Second(SECOND_LOW),
+};
 
-// The local time and the drum, or refusal 6.
-#[derive(Clone, Copy)]
-pub enum TimeAnswer {
-    At(Time, Drum),
-    BadTime,
-}
+const LAST: Time = Time {
+    day: Day(DAY_HIGH),
+    second: Second(SECOND_HIGH),
+};
 
-// Whole lots, and what is left over.
-#[derive(Drop)]
-struct Lots {
-    whole: i64,
-    rest: i64,
-}
+// The one error here: a field, or the day of a key, lies out of its range. It is document 01's refusal 6.
+#[derive(Clone, Copy, Debug, PartialEq, Eq)]
+pub struct BadTime;
 
-fn within(low: i64, high: i64, z: i64) -> bool
-    ensures { result ≡ within low high z }
-{
-    low <= z && z <= high
-}
-
-// Division toward the floor, with a rest that is never negative. `/` and `%` go toward zero, so where the rest comes out
-// negative one lot moves over to it.
-fn floored(z: i64, k: u32) -> Lots
-    requires { 0 < k }
-    ensures { (result.whole ≡ floor_div z k) × (result.rest ≡ pos (floor_mod z k)) }
-{
-    let lot = k as i64;
-    let whole = z / lot;
-    let rest = z % lot;
-    if rest < 0 {
-        Lots {
-            whole: whole - 1,
-            rest: rest + lot,
-        }
-    } else {
-        Lots { whole, rest }
+impl fmt::Display for BadTime {
+    fn fmt<W: fmt::Write>(&self, f: &mut fmt::Formatter<W>) -> fmt::Result {
+        write!(f, "a time out of its range")
     }
+}
+
+impl Error for BadTime {}
+
+impl From<BadTime> for Refusal {
+    ghost from_gives = { λ _ r. r ≡ R.BadTime };
+
+    fn from(_e: BadTime) -> Refusal {
+        Refusal::BadTime
+    }
+}
+
+// Lets a number pass that lies in its range.
+fn within(low: i64, high: i64, z: i64) -> Result<(), BadTime>
+    ensures { is_ok result ≡ within low high z }
+{
+    if (low..=high).contains(&z) {
+        Ok(())
+    } else {
+        Err(BadTime)
+    }
+}
+
+// How many whole lots of k there are. Below zero it rounds down too: -1 is in the lot before the first.
+fn floor(z: i64, k: u32) -> i64
+    requires { 0 < k }
+    ensures { result ≡ floor_div z k }
+{
+    z.div_euclid(k as i64)
+}
+
+// What is left over of those lots, never negative.
+fn rest(z: i64, k: u32) -> i64
+    requires { 0 < k }
+    ensures { result ≡ pos (floor_mod z k) }
+{
+    z.rem_euclid(k as i64)
 }
 
 // The two ways between a moment and its local clock, which runs ahead of it by the offset. Each stands alone, so that
@@ -115,11 +130,11 @@ fn ahead(z: i64, offset: i64) -> i64
 }
 
 // Seconds from 1970-01-01 at offset 0.
-fn moment(day: i64, second: i64, offset: i64) -> i64
-    requires { GoodTime day second offset }
-    ensures { result ≡ moment_of day second offset }
+fn moment(time: Time, offset: Offset) -> i64
+    requires { GoodTime time.day.0 time.second.0 offset.0 }
+    ensures { result ≡ moment_of time.day.0 time.second.0 offset.0 }
 {
-    behind(day * 86_400 + second, offset)
+    behind(time.day.0 * 86_400 + time.second.0, offset.0)
 }
 
 // The drum takes the last place of a key, of eight: so it decides between two keys of one moment, and no other two.
@@ -131,43 +146,34 @@ fn with_drum(moment: i64, drum: i64) -> i64
 }
 
 // The key of a drum at a local time.
-pub fn key_of(time: Time, offset: Offset, drum: Drum) -> KeyAnswer
+pub fn key_of(time: Time, offset: Offset, drum: Drum) -> Result<Key, BadTime>
     ensures { key_found result ≡ to_key time.day.0 time.second.0 offset.0 drum.0 }
 {
-    if !within(DAY_LOW, DAY_HIGH, time.day.0) {
-        return KeyAnswer::BadTime;
-    }
-    if !within(SECOND_LOW, SECOND_HIGH, time.second.0) {
-        return KeyAnswer::BadTime;
-    }
-    if !within(OFFSET_LOW, OFFSET_HIGH, offset.0) {
-        return KeyAnswer::BadTime;
-    }
-    if !within(DRUM_LOW, DRUM_HIGH, drum.0) {
-        return KeyAnswer::BadTime;
-    }
-    let at = moment(time.day.0, time.second.0, offset.0);
-    KeyAnswer::At(Key(with_drum(at, drum.0)))
+    within(DAY_LOW, DAY_HIGH, time.day.0)?;
+    within(SECOND_LOW, SECOND_HIGH, time.second.0)?;
+    within(OFFSET_LOW, OFFSET_HIGH, offset.0)?;
+    within(DRUM_LOW, DRUM_HIGH, drum.0)?;
+    let at = moment(time, offset);
+    Ok(Key(with_drum(at, drum.0)))
 }
 
 // The local time and the drum of a key. The key's moment is held against the first and the last one of the days in range
 // before anything is added to it: so the sum cannot overflow, and no test of the day is left for afterwards.
-pub fn time_of(key: Key, offset: Offset) -> TimeAnswer
+pub fn time_of(key: Key, offset: Offset) -> Result<(Time, Drum), BadTime>
     ensures { time_found result ≡ from_key key.0 offset.0 }
 {
-    if !within(OFFSET_LOW, OFFSET_HIGH, offset.0) {
-        return TimeAnswer::BadTime;
-    }
-    let first = moment(DAY_LOW, SECOND_LOW, offset.0);
-    let last = moment(DAY_HIGH, SECOND_HIGH, offset.0);
-    let at = floored(key.0, 8);
-    if !within(first, last, at.whole) {
-        return TimeAnswer::BadTime;
-    }
-    let local = floored(ahead(at.whole, offset.0), 86_400);
+    within(OFFSET_LOW, OFFSET_HIGH, offset.0)?;
+    let first = moment(FIRST, offset);
+    let last = moment(LAST, offset);
+    let at = floor(key.0, 8);
+    within(first, last, at)?;
+    let local = ahead(at, offset.0);
+    let day = floor(local, 86_400);
+    let second = rest(local, 86_400);
+    let drum = rest(key.0, 8);
     let time = Time {
-        day: Day(local.whole),
-        second: Second(local.rest),
+        day: Day(day),
+        second: Second(second),
     };
-    TimeAnswer::At(time, Drum(at.rest))
+    Ok((time, Drum(drum)))
 }

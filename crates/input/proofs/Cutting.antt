@@ -1,44 +1,43 @@
--- Steps of the loops that cut a line into fields.
+-- What a cut of a line into fields finds.
 use Prim.Native.Nat.{ℕ, suc, ◌+◌, ◌-◌, ◌<◌, ◌≤◌}
-use mathlib.Core.Path.{◌≡◌, refl}
+use mathlib.Core.Path.{◌≡◌, refl, ◌∙◌}
 use mathlib.Core.List.{List, [], ◌∷◌}
-use mathlib.Core.Bool.{Bool, true, false}
-use native.Mathlib.Numerals.{add-one}
+use mathlib.Core.Bool.{Bool, true, false, not, cond}
 use native.Mathlib.Omega.{arith}
-use lib.ListN.{length, get_or, drop, drop_of_length-le, length-drop}
-use lib.Seq.{drop-cons, drop-drop}
+use lib.ListN.{length, take, drop, length-drop}
+use lib.Seq.{drop-drop}
 use lib.Dec.{eqb, leb}
-use borrow.Author.Tests.{eq-eqb, ne_eqb, lt-ltb, le-ltb}
+use borrow.Author.Tests.{lt-ltb, le-ltb}
+use Rattle.std.specs.List.{prefix_len}
+use Rattle.std.proofs.lemmas.List.Folds.{length-prefix_len}
+use Rattle.std.specs.declared.option.Option.TheVariants.{Some, None}
 use Rattle.arena.specs.Branch.{ifte}
 use Rattle.input.specs.inner.Fields.{spaces, others, skipped, passed, field_from, next_field, ends_at}
-use Rattle.input.specs.declared.fields.Field.TheVariants.{At, Nothing}
 
-module _ (s : List ℕ) (i j : ℕ) where
-  pub skip_on : i < length s → get_or s i 0 ≡ 32 → skipped s i ≡ j → skipped s (i + 1) ≡ j
-  unfolding skipped spaces
-  skip_on h e p = rw (← p, add-one, drop-cons s i 0 h, eq-eqb (get_or s i 0) 32 e) (omega arith)
+spaces_prefix : (l : List ℕ) → prefix_len (λ b. eqb b 32) l ≡ spaces l
+unfolding spaces
+spaces_prefix [] = refl
+spaces_prefix (b ∷ bs) = one (eqb b 32) (spaces_prefix bs)
+  where
+    one : (t : Bool) → prefix_len (λ b. eqb b 32) bs ≡ spaces bs → cond t (1 + prefix_len (λ b. eqb b 32) bs) 0 ≡ ifte t (suc (spaces bs)) 0
+    one true h = omega (arith, h)
+    one false h = refl
 
-  pub skip_stop : i < length s → (get_or s i 0 ≡ 32 → ⊥) → skipped s i ≡ j → i ≡ j
-  unfolding skipped spaces
-  skip_stop h e p = rw (← p, drop-cons s i 0 h, ne_eqb (get_or s i 0) 32 e) (omega arith)
+others_prefix : (l : List ℕ) → prefix_len (λ b. not (eqb b 32)) l ≡ others l
+unfolding others
+others_prefix [] = refl
+others_prefix (b ∷ bs) = one (eqb b 32) (others_prefix bs)
+  where
+    one : (t : Bool) → prefix_len (λ b. not (eqb b 32)) bs ≡ others bs → cond (not t) (1 + prefix_len (λ b. not (eqb b 32)) bs) 0 ≡ ifte t 0 (suc (others bs))
+    one true h = refl
+    one false h = omega (arith, h)
 
-  pub skip_end : length s ≤ i → skipped s i ≡ j → i ≡ j
-  unfolding skipped spaces
-  skip_end h p = rw (← p, drop_of_length-le s h) (omega arith)
+-- the bytes that `take_while` takes are as many
+pub spaces_are : (l : List ℕ) → length (take (prefix_len (λ b. eqb b 32) l) l) ≡ spaces l
+spaces_are l = length-prefix_len (λ b. eqb b 32) l ∙ spaces_prefix l
 
-  pub pass_on : i < length s → (get_or s i 0 ≡ 32 → ⊥) → passed s i ≡ j → passed s (i + 1) ≡ j
-  unfolding passed others
-  pass_on h e p = rw (← p, add-one, drop-cons s i 0 h, ne_eqb (get_or s i 0) 32 e) (omega arith)
-
-  pub pass_stop : i < length s → get_or s i 0 ≡ 32 → passed s i ≡ j → i ≡ j
-  unfolding passed others
-  pass_stop h e p = rw (← p, drop-cons s i 0 h, eq-eqb (get_or s i 0) 32 e) (omega arith)
-
-  pub pass_end : length s ≤ i → passed s i ≡ j → i ≡ j
-  unfolding passed others
-  pass_end h p = rw (← p, drop_of_length-le s h) (omega arith)
-
-pub ruleset cutting = (skip_on, skip_stop, skip_end, pass_on, pass_stop, pass_end)
+pub others_are : (l : List ℕ) → length (take (prefix_len (λ b. not (eqb b 32)) l) l) ≡ others l
+others_are l = length-prefix_len (λ b. not (eqb b 32)) l ∙ others_prefix l
 
 others_le : (l : List ℕ) → others l ≤ length l
 unfolding others
@@ -77,11 +76,11 @@ field_some s from a e p h q = (field_in s from a e p h q).0
 pub field_end : (s : List ℕ) (from a e : ℕ) → a ≡ skipped s from → a < length s → e ≡ passed s a → e ≤ length s
 field_end s from a e p h q = (field_in s from a e p h q).1
 
-pub field_at : (s : List ℕ) (from a e : ℕ) → a ≡ skipped s from → a < length s → e ≡ passed s a → At a e ≡ next_field s from
+pub field_at : (s : List ℕ) (from a e : ℕ) → a ≡ skipped s from → a < length s → e ≡ passed s a → Some (record { start = a; end = e }) ≡ next_field s from
 unfolding next_field field_from
 field_at s from a e p h q = rw (← p, lt-ltb a (length s) h, ← q)
 
-pub no_field : (s : List ℕ) (from a : ℕ) → a ≡ skipped s from → length s ≤ a → Nothing ≡ next_field s from
+pub no_field : (s : List ℕ) (from a : ℕ) → a ≡ skipped s from → length s ≤ a → None ≡ next_field s from
 unfolding next_field field_from
 no_field s from a p h = rw (← p, le-ltb a (length s) h)
 

@@ -1,4 +1,4 @@
 pub mod Cutting
+pub mod Parts
 pub mod Reading
 pub mod Signs
-pub mod Parts

@@ -1,43 +1,12 @@
--- What a field that was found tells, and what is made of its bytes.
+-- What a reader makes of a field, once the field is found.
 use Prim.Native.Nat.{ℕ}
 use mathlib.Core.Path.{◌≡◌}
 use mathlib.Core.List.{List}
-use Rattle.handle.specs.declared.Key.{Key}
-use Rattle.input.specs.inner.Numbers.{unsigned_of, signed_of}
-use Rattle.input.specs.inner.Fields.{next_field, part, number_field, key_field}
-use Rattle.input.specs.declared.fields.Field.{Field}
-use Rattle.input.specs.declared.fields.Field.TheVariants.{At, Nothing}
-use Rattle.input.specs.declared.numbers.Number.{Number}
-use Rattle.input.specs.declared.numbers.Number as N
-use Rattle.input.specs.declared.numbers.SignedNumber.{SignedNumber}
-use Rattle.input.specs.declared.numbers.SignedNumber as S
-use Rattle.input.specs.declared.fields.NumberField as NF
-use Rattle.input.specs.declared.fields.KeyField as KF
+use Rattle.std.specs.declared.option.Option.{Option}
+use Rattle.std.specs.declared.option.Option.TheVariants.{Some}
+use Rattle.input.specs.declared.fields.Span.{Span}
+use Rattle.input.specs.inner.Fields.{part, ending, next_field, field_by}
 
-module _ (s : List ℕ) (from : ℕ) (f : Field) (here : f ≡ next_field s from) where
-  pub no_number : f ≡ Nothing → NF.TheVariants.Bad ≡ number_field s from
-  unfolding number_field
-  no_number p = rw (← here, p)
-
-  pub no_key : f ≡ Nothing → KF.TheVariants.Bad ≡ key_field s from
-  unfolding key_field
-  no_key p = rw (← here, p)
-
-  module _ (a e : ℕ) (at : f ≡ At a e) where
-    pub number_is : (n : Number) (v : ℕ) → n ≡ unsigned_of (part s a e) → n ≡ N.TheVariants.Is v →
-        NF.TheVariants.Is v e ≡ number_field s from
-    unfolding number_field
-    number_is n v p q = rw (← here, at, ← p, q)
-
-    pub number_bad : (n : Number) → n ≡ unsigned_of (part s a e) → n ≡ N.TheVariants.Bad → NF.TheVariants.Bad ≡ number_field s from
-    unfolding number_field
-    number_bad n p q = rw (← here, at, ← p, q)
-
-    pub key_is : (n : SignedNumber) (v : Key) → n ≡ signed_of (part s a e) → n ≡ S.TheVariants.Is v →
-        KF.TheVariants.Is v e ≡ key_field s from
-    unfolding key_field
-    key_is n v p q = rw (← here, at, ← p, q)
-
-    pub key_bad : (n : SignedNumber) → n ≡ signed_of (part s a e) → n ≡ S.TheVariants.Bad → KF.TheVariants.Bad ≡ key_field s from
-    unfolding key_field
-    key_bad n p q = rw (← here, at, ← p, q)
+module _ {A : Type 0} (g : List ℕ → Option A) (s : List ℕ) (from : ℕ) (p : Span) (v : Option A) (r : Option (A × ℕ)) where
+  pub read_so : r ≡ ending p.end v → Some p ≡ next_field s from → v ≡ g (part s p.start p.end) → r ≡ field_by g s from
+  read_so q here e = rw (← here, q, e)

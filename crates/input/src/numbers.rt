@@ -1,107 +1,58 @@
 // Numbers from bytes, each function equal to its model: no byte is read as something else.
-ghost use Rattle.std.specs.Prelude.{◌≡◌};
+ghost use Rattle.std.specs.Prelude.{◌≡◌, ◌<◌, ◌≤◌, Some, MatchOption};
 ghost use Rattle.input.specs.inner.Numbers.{digit_of, unsigned_of, below_of, above_of, signed_of};
 
-use arena::keys;
 use handle::Key;
 
-#[derive(Drop)]
-pub enum Number {
-    Is(u64),
-    Bad,
-}
-
-#[derive(Drop)]
-pub enum SignedNumber {
-    Is(Key),
-    Bad,
-}
-
 // One or more digits, at most 2^64 - 1.
-pub fn unsigned(s: &[u8]) -> Number
+pub fn unsigned(s: &[u8]) -> Option<u64>
     ensures { result ≡ unsigned_of s.now }
 {
-    if s.len() < 1 {
-        return Number::Bad;
+    if s.is_empty() {
+        return None;
     }
     let mut v: u64 = 0;
-    let mut i: usize = 0;
-    while i < s.len() {
-        let d = digit(s[i]);
-        if 9 < d {
-            return Number::Bad;
-        }
-        if 1844674407370955161 < v {
-            return Number::Bad;
-        }
-        let tens = v * 10;
-        if 18446744073709551615 - tens < d {
-            return Number::Bad;
-        }
-        v = tens + d;
-        i += 1;
+    for &b in s {
+        let d = digit(b)?;
+        let tens = v.checked_mul(10)?;
+        v = tens.checked_add(d)?;
     }
-    Number::Is(v)
+    Some(v)
 }
 
-// What a digit counts; 10 for any other byte.
-fn digit(b: u8) -> u64
-    ensures { result ≡ digit_of b }
+// What a digit counts.
+fn digit(b: u8) -> Option<u64>
+    ensures { MatchOption result (9 < digit_of b) (λ d. (d ≡ digit_of b) × (d ≤ 9)) }
 {
-    if b < b'0' {
-        return 10;
+    if b.is_ascii_digit() {
+        Some((b - b'0') as u64)
+    } else {
+        None
     }
-    if b'9' < b {
-        return 10;
-    }
-    wide(b) - 48
-}
-
-fn wide(b: u8) -> u64
-    ensures { result ≡ b }
-{
-    b as u64
 }
 
 // Digits, or a minus and digits, from -2^63 to 2^63 - 1.
-pub fn signed(s: &[u8]) -> SignedNumber
+pub fn signed(s: &[u8]) -> Option<Key>
     ensures { result ≡ signed_of s.now }
 {
-    if s.len() < 1 {
-        return SignedNumber::Bad;
+    match s {
+        [b'-', digits @ ..] => below(unsigned(digits)?),
+        _ => above(unsigned(s)?),
     }
-    if s[0] == b'-' {
-        return below(unsigned(&s[1..]));
-    }
-    above(unsigned(s))
 }
 
 // The key that is the number's negative.
-fn below(n: Number) -> SignedNumber
-    ensures { result ≡ below_of n }
+fn below(v: u64) -> Option<Key>
+    ensures { result ≡ below_of (Some v) }
 {
-    match n {
-        Number::Is(v) => {
-            if 9223372036854775808 < v {
-                return SignedNumber::Bad;
-            }
-            SignedNumber::Is(keys::signed_key(9223372036854775808 - v))
-        }
-        Number::Bad => SignedNumber::Bad,
-    }
+    let k = 0i64.checked_sub_unsigned(v)?;
+    Some(Key(k))
 }
 
 // The key that is the number.
-fn above(n: Number) -> SignedNumber
-    ensures { result ≡ above_of n }
+fn above(v: u64) -> Option<Key>
+    ensures { result ≡ above_of (Some v) }
 {
-    match n {
-        Number::Is(v) => {
-            if 9223372036854775807 < v {
-                return SignedNumber::Bad;
-            }
-            SignedNumber::Is(keys::signed_key(9223372036854775808 + v))
-        }
-        Number::Bad => SignedNumber::Bad,
-    }
+    let k = 0i64.checked_add_unsigned(v)?;
+    Some(Key(k))
 }

@@ -6,8 +6,7 @@ use arena::words;
 use arena::words::{BACK, FIRST, LAST, LEFT, NEXT, PREV, RIGHT, ROOT};
 use handle::{Handle, Refusal};
 use listing::Listing;
-use script::table;
-use script::table::TABLE;
+use script::table::Table;
 use std::fmt;
 use std::fmt::{Display, Formatter};
 
@@ -15,11 +14,11 @@ use std::fmt::{Display, Formatter};
 #[derive(Drop)]
 pub struct Dump<'a> {
     listing: Listing<'a>,
-    table: &'a [u64; TABLE],
+    table: &'a Table,
 }
 
 impl<'a> Dump<'a> {
-    pub fn of(store: &'a [u64], table: &'a [u64; TABLE]) -> Result<Dump<'a>, Refusal> {
+    pub fn of(store: &'a [u64], table: &'a Table) -> Result<Dump<'a>, Refusal> {
         let listing = Listing::of(store)?;
         Ok(Dump { listing, table })
     }
@@ -47,7 +46,7 @@ impl<'a> Dump<'a> {
     // `N KEY VALUE RANK BACK LEFT RIGHT PREV NEXT`
     fn entry<W: fmt::Write>(&self, h: Handle, f: &mut Formatter<W>) -> fmt::Result {
         let slot = h.slot.0;
-        write!(f, "{} ", table::number_of(self.table, slot))?;
+        write!(f, "{} ", self.table.number_of(slot))?;
         self.listing.key_and_value(h, f)?;
         self.listing.rank(slot, f)?;
         let Listing { store, capacity } = self.listing;
@@ -67,7 +66,7 @@ impl<'a> Dump<'a> {
         if slot == Handle::NO_SLOT {
             Link(None)
         } else {
-            Link(Some(table::number_of(self.table, slot)))
+            Link(Some(self.table.number_of(slot)))
         }
     }
 }

@@ -4,21 +4,16 @@
 
 mod dumping;
 
-ghost use Rattle.std.specs.Prelude.{length};
-ghost use Rattle.input.specs.inner.Lines.{LineFits};
-
 use answers::answer::Answer;
 use dumping::Dump;
 use handle::Refusal;
-use input::lines;
-use input::lines::{Line, PART, Reader};
+use input::lines::{Line, Reader};
 use listing::Listing;
 use output::out::{Out, STANDARD_ERROR};
 use script::command;
 use script::command::Command;
 use serve::Served;
 use std::fmt::Display;
-use std::io::Stdin;
 
 // The longest line that is read.
 const LONGEST: usize = 128;
@@ -54,18 +49,14 @@ fn show<D: Display + Drop>(shown: Result<D, Refusal>, out: &mut Out) {
     }
 }
 
-// Serves a line that was read into `line`, and says whether more may follow.
-fn serve_line(got: Line, line: &[u8], served: &mut Served, out: &mut Out) -> bool
-    requires { LineFits got (length line.now) }
-{
+// Serves what a call of the reader came to, and says whether more may follow.
+fn serve_line(got: Line<'_>, served: &mut Served, out: &mut Out) -> bool {
     match got {
-        Line::Whole(n) => respond(command::read(&line[0..n]), served, out),
+        Line::Whole(text) => respond(command::read(text), served, out),
         Line::TooLong => respond(Command::Bad, served, out),
         Line::Begun => {}
         Line::Failed => tell_failed(),
-        Line::End => {
-            return false;
-        }
+        Line::End => return false,
     }
     true
 }
@@ -77,29 +68,21 @@ fn tell_failed() {
     );
 }
 
-// A proved loop has to end, and nothing says that the input does: so it counts its turns, to a number that no run reaches.
-fn serve_all(
-    input: Stdin,
-    part: &mut [u8; PART],
-    line: &mut [u8],
-    served: &mut Served,
-    out: &mut Out,
-) {
-    let mut reader = Reader::new();
+// A proved loop has to end, and nothing says that the input does: so it has more turns than any run uses up.
+fn serve_all(reader: &mut Reader<'_>, served: &mut Served, out: &mut Out) {
     for _ in 0..u64::MAX {
-        let read = lines::next(input, part, reader, line);
-        if !serve_line(read.line, line, served, out) {
+        if !serve_line(reader.next(), served, out) {
             break;
         }
-        reader = read.reader;
     }
 }
 
 fn main(rt: HostRuntime) {
     let mut part = io::large_buffer();
     let mut line = [0u8; LONGEST];
+    let mut reader = Reader::new(rt.stdin(), &mut part, &mut line);
     let mut served = Served::new();
     let mut out = Out::new();
-    serve_all(rt.stdin(), &mut part, &mut line, &mut served, &mut out);
+    serve_all(&mut reader, &mut served, &mut out);
     out.flush();
 }

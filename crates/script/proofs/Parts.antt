@@ -1,41 +1,62 @@
--- From a number to a side, and what is made of a field's bytes.
-use Prim.Native.Nat.{ℕ}
+-- From a number to a side: by the number, where the model goes by its stored form.
+use Prim.Native.Nat.{ℕ, suc, ◌+◌, ◌-◌, ◌^◌}
 use mathlib.Core.Path.{◌≡◌}
 use mathlib.Core.List.{List}
+use native.Mathlib.Omega.{arith}
+use lib.IntN.{ℤ, pos, negsuc}
+use mir.Syntax.{w64}
+use mir.Val.{SFits, of_z}
+use borrow.Author.Tests.{ne_eqb}
+use Rattle.std.specs.declared.option.Option.{Option}
+use Rattle.std.specs.declared.option.Option.TheVariants.{Some, None}
 use Rattle.arena.specs.Keys.{stored}
 use Rattle.handle.specs.declared.Key.{Key}
 use Rattle.handle.specs.declared.Side.{Side}
-use Rattle.input.specs.declared.fields.Field.{Field}
-use Rattle.input.specs.declared.fields.Field.TheVariants.{At, Nothing}
-use Rattle.input.specs.declared.numbers.SignedNumber.{SignedNumber}
-use Rattle.input.specs.declared.numbers.SignedNumber as S
-use Rattle.input.specs.inner.Fields.{next_field, part}
+use Rattle.handle.specs.declared.Side.TheVariants.{Less, Equal, Greater}
 use Rattle.input.specs.inner.Numbers.{signed_of}
-use Rattle.script.specs.declared.sides.SideNumber.{SideNumber}
-use Rattle.script.specs.declared.sides.SideNumber as D
-use Rattle.script.specs.declared.sides.SideField as SF
-use Rattle.script.specs.inner.Sides.{side_at, side_read, side_field}
+use Rattle.script.specs.inner.Sides.{side_at, side_read}
 
-module _ (s : List ℕ) (n : SignedNumber) (here : n ≡ signed_of s) where
-  pub no_side_so : n ≡ S.TheVariants.Bad → D.TheVariants.Bad ≡ side_read s
+side_less : (z : ℤ) → SFits w64 z → of_z w64 z ≡ 18446744073709551615 → Some Less ≡ side_at (stored z)
+unfolding side_at stored
+side_less (pos n) f e = absurd (omega (arith, f.sfits))
+side_less (negsuc n) f e =
+    let p : n ≡ 0 = omega (arith, f.sfits) in rw p
+
+side_equal : (z : ℤ) → SFits w64 z → of_z w64 z ≡ 0 → Some Equal ≡ side_at (stored z)
+unfolding side_at stored
+side_equal (pos n) f e = let p : n ≡ 0 = omega (arith, f.sfits) in rw p
+side_equal (negsuc n) f e = absurd (omega (arith, f.sfits))
+
+side_greater : (z : ℤ) → SFits w64 z → of_z w64 z ≡ 1 → Some Greater ≡ side_at (stored z)
+unfolding side_at stored
+side_greater (pos n) f e = let p : n ≡ 1 = omega (arith, f.sfits) in rw p
+side_greater (negsuc n) f e = absurd (omega (arith, f.sfits))
+
+side_none : (z : ℤ) → SFits w64 z → (of_z w64 z ≡ 18446744073709551615 → ⊥) → (of_z w64 z ≡ 0 → ⊥) → (of_z w64 z ≡ 1 → ⊥) → None ≡ side_at (stored z)
+unfolding side_at stored
+side_none (pos n) f a b d =
+    rw (ne_eqb (n + 2 ^ 63) 9223372036854775807 (λ e. absurd (omega arith)), ne_eqb (n + 2 ^ 63) 9223372036854775808 (λ e. b (omega arith)), ne_eqb (n + 2 ^ 63) 9223372036854775809 (λ e. d (omega arith)))
+side_none (negsuc n) f a b d =
+    rw (ne_eqb (2 ^ 63 - suc n) 9223372036854775807 (λ e. a (omega arith)), ne_eqb (2 ^ 63 - suc n) 9223372036854775808 (λ e. absurd (omega arith)), ne_eqb (2 ^ 63 - suc n) 9223372036854775809 (λ e. absurd (omega arith)))
+
+module _ (s : List ℕ) where
+  pub no_side : (r : Option Side) → r ≡ None → None ≡ signed_of s → r ≡ side_read s
   unfolding side_read
-  no_side_so p = rw (← here, p)
+  no_side r e p = rw (e, ← p)
 
-  pub side_so : (k : Key) (w : ℕ) (d : SideNumber) → n ≡ S.TheVariants.Is k → w ≡ stored k.0 → d ≡ side_at w → d ≡ side_read s
-  unfolding side_read
-  side_so k w d p q g = rw (← here, p, ← q, g)
+  module _ (k : Key) (here : Some k ≡ signed_of s) (f : SFits w64 k.0) where
+    pub is_less : of_z w64 k.0 ≡ 18446744073709551615 → Some Less ≡ side_read s
+    unfolding side_read
+    is_less e = rw (← here) (side_less k.0 f e)
 
-module _ (s : List ℕ) (from : ℕ) (f : Field) (here : f ≡ next_field s from) where
-  pub no_side : f ≡ Nothing → SF.TheVariants.Bad ≡ side_field s from
-  unfolding side_field
-  no_side p = rw (← here, p)
+    pub is_equal : of_z w64 k.0 ≡ 0 → Some Equal ≡ side_read s
+    unfolding side_read
+    is_equal e = rw (← here) (side_equal k.0 f e)
 
-  module _ (a e : ℕ) (at : f ≡ At a e) where
-    pub side_is : (n : SideNumber) (v : Side) → n ≡ side_read (part s a e) → n ≡ D.TheVariants.Is v →
-        SF.TheVariants.Is v e ≡ side_field s from
-    unfolding side_field
-    side_is n v p q = rw (← here, at, ← p, q)
+    pub is_greater : of_z w64 k.0 ≡ 1 → Some Greater ≡ side_read s
+    unfolding side_read
+    is_greater e = rw (← here) (side_greater k.0 f e)
 
-    pub side_bad : (n : SideNumber) → n ≡ side_read (part s a e) → n ≡ D.TheVariants.Bad → SF.TheVariants.Bad ≡ side_field s from
-    unfolding side_field
-    side_bad n p q = rw (← here, at, ← p, q)
+    pub is_none : (of_z w64 k.0 ≡ 18446744073709551615 → ⊥) → (of_z w64 k.0 ≡ 0 → ⊥) → (of_z w64 k.0 ≡ 1 → ⊥) → None ≡ side_read s
+    unfolding side_read
+    is_none a b d = rw (← here) (side_none k.0 f a b d)

@@ -1,21 +1,18 @@
 // One line of a script as plain data. What reads well is a call; the rest is Nothing, Bad or Unknown.
 // A call with a wrong count of fields and one with a field that is no number of its kind are both Bad.
-use crate::sides::SideField;
-use crate::words::Word;
-use crate::{sides, words};
+use crate::sides;
 use handle::{Key, Side};
 use input::fields;
-use input::fields::{Field, KeyField, NumberField};
 
 // Where an insertion, or a look ahead at one, is asked for.
-#[derive(Drop)]
+#[derive(Clone, Copy)]
 pub enum Place {
     Normal,
     Empty,
     Manual(u64, Side),
 }
 
-#[derive(Drop)]
+#[derive(Clone, Copy)]
 pub enum Command {
     Nothing,
     Bad,
@@ -35,136 +32,95 @@ pub enum Command {
     Check,
 }
 
-// A place that was read, and where its last field ends.
-#[derive(Drop)]
-enum PlaceRead {
-    Is(Place, usize),
-    Bad,
-}
-
 // Reads a line of at most 128 bytes, given without its newline. One carriage return at its end is dropped.
 pub fn read(s: &[u8]) -> Command {
-    let n = s.len();
-    if 0 < n {
-        if s[n - 1] == b'\r' {
-            return read_bare(&s[..n - 1]);
-        }
+    match s {
+        [bare @ .., b'\r'] => read_bare(bare),
+        _ => read_bare(s),
     }
-    read_bare(s)
 }
 
 // Reads a line without its carriage return.
 fn read_bare(s: &[u8]) -> Command {
-    let f = fields::next_field(s, 0);
-    let Field::At(start, end) = f else {
+    let Some(span) = fields::next_field(s, 0) else {
         return Command::Nothing;
     };
-    if s[start] == b'#' {
+    let word = &s[span.start..span.end];
+    if word[0] == b'#' {
         return Command::Nothing;
     }
-    read_call(words::word_of(&s[start..end]), s, end)
+    read_call(word, s, span.end).unwrap_or(Command::Bad)
 }
 
-// Reads what stands behind the word.
-fn read_call(word: Word, s: &[u8], at: usize) -> Command {
+// The call that a word begins, read from what stands behind it: none where that does not fit the word. The words are matched
+// exactly, in lower case.
+fn read_call(word: &[u8], s: &[u8], at: usize) -> Option<Command> {
     match word {
-        Word::Unknown => Command::Unknown,
-        Word::New => read_new(s, at),
-        Word::Ins => insertion(Place::Normal, s, at),
-        Word::Emp => insertion(Place::Empty, s, at),
-        Word::Man => match manual(s, at) {
-            PlaceRead::Is(place, next) => insertion(place, s, next),
-            PlaceRead::Bad => Command::Bad,
-        },
-        Word::Peek => look(Place::Normal, s, at),
-        Word::Pemp => look(Place::Empty, s, at),
-        Word::Pman => match manual(s, at) {
-            PlaceRead::Is(place, next) => look(place, s, next),
-            PlaceRead::Bad => Command::Bad,
-        },
-        Word::Find => find(s, at),
-        Word::Rem | Word::Get | Word::Next | Word::Prev => by_number(word, s, at),
-        Word::First | Word::Last | Word::List | Word::Dump | Word::Check => alone(word, s, at),
+        b"new" => read_new(s, at),
+        b"ins" => insertion(Place::Normal, s, at),
+        b"emp" => insertion(Place::Empty, s, at),
+        b"man" => {
+            let (place, next) = manual(s, at)?;
+            insertion(place, s, next)
+        }
+        b"peek" => look(Place::Normal, s, at),
+        b"pemp" => look(Place::Empty, s, at),
+        b"pman" => {
+            let (place, next) = manual(s, at)?;
+            look(place, s, next)
+        }
+        b"find" => find(s, at),
+        b"rem" => by_number(|n| Command::Remove(n), s, at),
+        b"get" => by_number(|n| Command::Get(n), s, at),
+        b"next" => by_number(|n| Command::Next(n), s, at),
+        b"prev" => by_number(|n| Command::Prev(n), s, at),
+        b"first" => last(Command::First, s, at),
+        b"last" => last(Command::Last, s, at),
+        b"list" => last(Command::List, s, at),
+        b"dump" => last(Command::Dump, s, at),
+        b"check" => last(Command::Check, s, at),
+        _ => Some(Command::Unknown),
     }
 }
 
 // The command, if no field follows what it was read from.
-fn last(c: Command, s: &[u8], end: usize) -> Command {
-    if fields::ends(s, end) {
-        return c;
-    }
-    Command::Bad
+fn last(c: Command, s: &[u8], end: usize) -> Option<Command> {
+    if fields::ends(s, end) { Some(c) } else { None }
 }
 
-fn read_new(s: &[u8], at: usize) -> Command {
-    let NumberField::Is(capacity, next) = fields::number_field(s, at) else {
-        return Command::Bad;
-    };
-    let NumberField::Is(top, end) = fields::number_field(s, next) else {
-        return Command::Bad;
-    };
+fn read_new(s: &[u8], at: usize) -> Option<Command> {
+    let (capacity, next) = fields::number_field(s, at)?;
+    let (top, end) = fields::number_field(s, next)?;
     last(Command::New(capacity, top), s, end)
 }
 
-// The number and the side of a Manual place.
-fn manual(s: &[u8], at: usize) -> PlaceRead {
-    let NumberField::Is(n, next) = fields::number_field(s, at) else {
-        return PlaceRead::Bad;
-    };
-    let SideField::Is(side, end) = sides::side_field(s, next) else {
-        return PlaceRead::Bad;
-    };
-    PlaceRead::Is(Place::Manual(n, side), end)
+// The number and the side of a Manual place, and where its last field ends.
+fn manual(s: &[u8], at: usize) -> Option<(Place, usize)> {
+    let (n, next) = fields::number_field(s, at)?;
+    let (side, end) = sides::side_field(s, next)?;
+    Some((Place::Manual(n, side), end))
 }
 
-fn insertion(place: Place, s: &[u8], at: usize) -> Command {
-    let KeyField::Is(key, next) = fields::key_field(s, at) else {
-        return Command::Bad;
-    };
-    let NumberField::Is(value, end) = fields::number_field(s, next) else {
-        return Command::Bad;
-    };
+fn insertion(place: Place, s: &[u8], at: usize) -> Option<Command> {
+    let (key, next) = fields::key_field(s, at)?;
+    let (value, end) = fields::number_field(s, next)?;
     last(Command::Insert(place, key, value), s, end)
 }
 
-fn look(place: Place, s: &[u8], at: usize) -> Command {
-    let KeyField::Is(key, end) = fields::key_field(s, at) else {
-        return Command::Bad;
-    };
+fn look(place: Place, s: &[u8], at: usize) -> Option<Command> {
+    let (key, end) = fields::key_field(s, at)?;
     last(Command::Ahead(place, key), s, end)
 }
 
-fn find(s: &[u8], at: usize) -> Command {
-    let KeyField::Is(key, end) = fields::key_field(s, at) else {
-        return Command::Bad;
-    };
+fn find(s: &[u8], at: usize) -> Option<Command> {
+    let (key, end) = fields::key_field(s, at)?;
     last(Command::Find(key), s, end)
 }
 
-// A word with one number behind it.
-fn by_number(word: Word, s: &[u8], at: usize) -> Command {
-    let NumberField::Is(n, end) = fields::number_field(s, at) else {
-        return Command::Bad;
-    };
-    let c = match word {
-        Word::Rem => Command::Remove(n),
-        Word::Get => Command::Get(n),
-        Word::Next => Command::Next(n),
-        Word::Prev => Command::Prev(n),
-        _ => Command::Unknown,
-    };
-    last(c, s, end)
-}
-
-// A word with nothing behind it.
-fn alone(word: Word, s: &[u8], at: usize) -> Command {
-    let c = match word {
-        Word::First => Command::First,
-        Word::Last => Command::Last,
-        Word::List => Command::List,
-        Word::Dump => Command::Dump,
-        Word::Check => Command::Check,
-        _ => Command::Unknown,
-    };
-    last(c, s, at)
+// A command of the one number that stands behind its word.
+fn by_number<F: Fn(u64) -> Command>(command: F, s: &[u8], at: usize) -> Option<Command>
+    requires { F.IsAlwaysCallable command }
+{
+    let (n, end) = fields::number_field(s, at)?;
+    last(command(n), s, end)
 }

@@ -6,4 +6,3 @@
 pub mod command;
 pub mod sides;
 pub mod table;
-pub mod words;

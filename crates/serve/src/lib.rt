@@ -7,14 +7,13 @@ mod placing;
 
 use arena::words::STORE;
 use handle::{Handle, Slot};
-use script::table;
-use script::table::TABLE;
+use script::table::Table;
 
 // The store, and the table of the numbers of the insertions into it. It is large: make it once, in `main`.
 #[derive(Drop)]
 pub struct Served {
     pub store: [u64; STORE],
-    pub table: [u64; TABLE],
+    pub table: Table,
 }
 
 impl Served {
@@ -22,15 +21,15 @@ impl Served {
     pub fn new() -> Served {
         Served {
             store: [0; STORE],
-            table: [0; TABLE],
+            table: Table::new(),
         }
     }
 
     fn handle_of(&self, n: u64) -> Handle {
-        table::handle_of(&self.table, n)
+        self.table.handle_of(n)
     }
 
     fn number_of(&self, slot: Slot) -> u64 {
-        table::number_of(&self.table, slot.0)
+        self.table.number_of(slot.0)
     }
 }

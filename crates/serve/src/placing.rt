@@ -4,14 +4,14 @@ use answers::answer::Answer;
 use handle::{Inserted, Key, LaidOut, Removed};
 use queue::{placing, taking};
 use script::command::Place;
-use script::table;
+use script::table::NUMBERS;
 
 impl Served {
     // A refused `new` leaves the earlier queue and its numbers as they were.
     pub fn lay_out(&mut self, capacity: u64, top: u64) -> Answer {
         match placing::lay_out(&mut self.store, capacity, top) {
             LaidOut::Done => {
-                table::clear(&mut self.table);
+                self.table.clear();
                 Answer::Done
             }
             LaidOut::Refused(r) => Answer::Refused(r),
@@ -20,11 +20,11 @@ impl Served {
 
     // An insertion, unless every number has been given: then it is not tried.
     pub fn insert(&mut self, place: Place, key: Key, value: u64) -> Answer {
-        if table::NUMBERS <= table::count(&self.table) {
+        if NUMBERS <= self.table.count() {
             return Answer::Full;
         }
         match self.insert_at(place, key, value) {
-            Inserted::New(h) => Answer::New(table::give(&mut self.table, h)),
+            Inserted::New(h) => Answer::New(self.table.give(h)),
             Inserted::Replacing(h, old) => Answer::Replaced(self.number_of(h.slot), old),
             Inserted::Refused(r) => Answer::Refused(r),
         }

@@ -6,30 +6,26 @@
 
 mod text;
 
-ghost use Rattle.std.specs.Prelude.{length};
-ghost use Rattle.input.specs.inner.Lines.{LineFits};
-
-use due::{KeyAnswer, TimeAnswer};
-use input::lines;
-use input::lines::{Line, PART, Reader};
+use due::{BadTime, Drum, Time};
+use handle::Key;
+use input::lines::{Line, Reader};
 use output::{console, say, say_line};
-use std::io::Stdin;
 use text::Asked;
 
 // Bytes that are kept of a line: the longest question, of four numbers, has 87.
 const LINE: usize = 96;
 
-fn show_key(a: KeyAnswer) {
-    match a {
-        KeyAnswer::At(key) => say!("{key}"),
-        KeyAnswer::BadTime => say!("refused 6"),
+fn show_key(answer: Result<Key, BadTime>) {
+    match answer {
+        Ok(key) => say!("{key}"),
+        Err(BadTime) => say!("refused 6"),
     }
 }
 
-fn show_time(a: TimeAnswer) {
-    match a {
-        TimeAnswer::At(t, drum) => say!("{} {} {}", t.day.0, t.second.0, drum.0),
-        TimeAnswer::BadTime => say!("refused 6"),
+fn show_time(answer: Result<(Time, Drum), BadTime>) {
+    match answer {
+        Ok((time, drum)) => say!("{} {} {}", time.day.0, time.second.0, drum.0),
+        Err(BadTime) => say!("refused 6"),
     }
 }
 
@@ -41,45 +37,28 @@ fn answer(line: &[u8]) {
     }
     say!(" -> ");
     match text::question(line) {
-        Asked::Key(time, offset, drum) => show_key(due::key_of(time, offset, drum)),
-        Asked::Time(key, offset) => show_time(due::time_of(key, offset)),
-        Asked::Nothing => say!("no question"),
+        Some(Asked::Key(time, offset, drum)) => show_key(due::key_of(time, offset, drum)),
+        Some(Asked::Time(key, offset)) => show_time(due::time_of(key, offset)),
+        None => say!("no question"),
     }
     say_line!("");
 }
 
-// Answers a line that was read into `line`, and says whether more may follow.
-fn answer_line(got: Line, line: &[u8]) -> bool
-    requires { LineFits got (length line.now) }
-{
-    match got {
-        Line::Whole(n) => answer(&line[0..n]),
-        Line::TooLong => say_line!("(a line that is too long) -> no question"),
-        Line::Begun | Line::Failed => {}
-        Line::End => {
-            return false;
+// A proved loop has to end, and nothing says that the input does: so it has more turns than any run uses up.
+fn answer_all(reader: &mut Reader<'_>) {
+    for _ in 0..u64::MAX {
+        match reader.next() {
+            Line::Whole(line) => answer(line),
+            Line::TooLong => say_line!("(a line that is too long) -> no question"),
+            Line::Begun | Line::Failed => {}
+            Line::End => break,
         }
-    }
-    true
-}
-
-// A proved loop has to end, and nothing says that the input does: so it counts its turns down from a number that no run uses up.
-fn answer_all(input: Stdin, part: &mut [u8; PART], line: &mut [u8]) {
-    let mut reader = Reader::new();
-    let mut turns = u64::MAX;
-    while 0 < turns {
-        let read = lines::next(input, part, reader, line);
-        let got = read.line;
-        if !answer_line(got, line) {
-            break;
-        }
-        reader = read.reader;
-        turns -= 1;
     }
 }
 
 fn main(rt: HostRuntime) {
     let mut part = io::large_buffer();
     let mut line = [0u8; LINE];
-    answer_all(rt.stdin(), &mut part, &mut line);
+    let mut reader = Reader::new(rt.stdin(), &mut part, &mut line);
+    answer_all(&mut reader);
 }

@@ -1,5 +1,5 @@
 // The tower's clock: the day of this evening, its offset and its drums, and times and strikes as a clockmaker writes them.
-use due::{DRUM_HIGH, Drum, Offset, Second, TimeAnswer};
+use due::{DRUM_HIGH, Drum, Offset, Second};
 use handle::{Entry, Refusal};
 use output::phrases::{Counted, Refused};
 use std::fmt;
@@ -71,7 +71,7 @@ pub struct Strike(pub Entry);
 
 impl Display for Strike {
     fn fmt<W: fmt::Write>(&self, f: &mut Formatter<W>) -> fmt::Result {
-        let TimeAnswer::At(time, drum) = due::time_of(self.0.key, Offset(OFFSET)) else {
+        let Ok((time, drum)) = due::time_of(self.0.key, Offset(OFFSET)) else {
             return write!(f, "{}", Refused(Refusal::BadTime));
         };
         let due = OnDrum {

@@ -1,6 +1,6 @@
 // Laying out and planning: each call is told in one line, what was asked for and what the queue answered.
 use crate::clock::{DAY, OFFSET, OnDrum, Strokes};
-use due::{Day, KeyAnswer, Offset, Time};
+use due::{BadTime, Day, Offset, Time};
 use handle::{Handle, Inserted, Key, LaidOut, Refusal, Side};
 use output::phrases::{Counted, Refused};
 use output::{say, say_line};
@@ -58,8 +58,8 @@ pub fn plan(s: &mut [u64], due: OnDrum, count: u64) -> Handle {
 pub fn plan_so(s: &mut [u64], way: Way, due: OnDrum, count: u64) -> Handle {
     say!("  plan {}{way}: ", Strokes { due, count });
     let answer = match key_of(due) {
-        KeyAnswer::At(key) => way.place(s, key, count),
-        KeyAnswer::BadTime => Inserted::Refused(Refusal::BadTime),
+        Ok(key) => way.place(s, key, count),
+        Err(BadTime) => Inserted::Refused(Refusal::BadTime),
     };
     match answer {
         Inserted::New(h) => {
@@ -78,7 +78,7 @@ pub fn plan_so(s: &mut [u64], way: Way, due: OnDrum, count: u64) -> Handle {
 }
 
 // The key of a time of this evening's day.
-fn key_of(due: OnDrum) -> KeyAnswer {
+fn key_of(due: OnDrum) -> Result<Key, BadTime> {
     let time = Time {
         day: Day(DAY),
         second: due.second,

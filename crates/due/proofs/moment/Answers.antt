@@ -9,9 +9,11 @@ use Rattle.due.proofs.NoOverflow.{days_fit, seconds_fit}
 pub returns : goal.returns
 unfolding moment_of
 returns c =
-    let f = c.ranges in
+    let d : SFits w64 c.args.time.day.0 = search rules in
+    let s : SFits w64 c.args.time.second.0 = search rules in
+    let o : SFits w64 c.args.offset.0 = search rules in
     let day = days_fit _ _ _ c.requires in
     let sum = seconds_fit _ _ _ c.requires in
     let given : SFits w64 c.behind.result = search rules in
     to_z-of_z _ _ given
-    ∙ (rw (to_z-of_z _ _ f.day, to_z-of_z _ _ f.second, to_z-of_z _ _ f.offset, to_z-of_z _ _ day, to_z-of_z _ _ sum) at c.behind.ensures)
+    ∙ (rw (to_z-of_z _ _ d, to_z-of_z _ _ s, to_z-of_z _ _ o, to_z-of_z _ _ day, to_z-of_z _ _ sum) at c.behind.ensures)

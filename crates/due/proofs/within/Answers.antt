@@ -1,22 +1,17 @@
--- The two comparisons are the definition's, read back from the bits.
-use Rattle.std.proofs.Common.{◌≡◌, true, false}
+-- The range that is made holds low and high, and is not used up; its test is the definition's, read back from the bits.
+use Rattle.std.proofs.Common.{◌∙◌, sym}
 use Rattle.std.proofs.lemmas.Int.{to_z-of_z}
-use lib.Signed.{le_z}
-use Rattle.due.specs.Due.{within}
+use Rattle.due.proofs.Ranges.{contained}
 use Rattle.due.proofs.within.Goals as goal
 
-pub returns-then-low-z : goal.returns-then-low-z
-unfolding within
-returns-then-low-z c =
+pub returns-then-contains : goal.returns-then-contains
+returns-then-contains c =
     let f = c.ranges in
-    let a = c.args in
-    let t : le_z a.low a.z ≡ true = rw (to_z-of_z _ _ f.low, to_z-of_z _ _ f.z) at c.if-low-z.true in
-    rw (to_z-of_z _ _ f.z, to_z-of_z _ _ f.high, t)
+    let h = rw (c.new.ensures.start, c.new.ensures.end, c.new.ensures.exhausted, to_z-of_z _ _ f.low, to_z-of_z _ _ f.high, to_z-of_z _ _ f.z) at c.contains.ensures.value in
+    sym c.if-contains.true ∙ h ∙ contained _ _ _
 
-pub returns-else-low-z : goal.returns-else-low-z
-unfolding within
-returns-else-low-z c =
+pub returns-else-contains : goal.returns-else-contains
+returns-else-contains c =
     let f = c.ranges in
-    let a = c.args in
-    let t : le_z a.low a.z ≡ false = rw (to_z-of_z _ _ f.low, to_z-of_z _ _ f.z) at c.if-low-z.false in
-    rw (to_z-of_z _ _ f.low, to_z-of_z _ _ f.z, t)
+    let h = rw (c.new.ensures.start, c.new.ensures.end, c.new.ensures.exhausted, to_z-of_z _ _ f.low, to_z-of_z _ _ f.high, to_z-of_z _ _ f.z) at c.contains.ensures.value in
+    sym c.if-contains.false ∙ h ∙ contained _ _ _

@@ -1,18 +1,10 @@
 -- How a line is cut into fields. The script language: "cut into fields at spaces (byte 32). One or more spaces separate; leading
 -- and trailing spaces do not count. No other byte separates".
-use Rattle.std.specs.Prelude.{ℕ, suc, ◌+◌, ◌-◌, ◌<◌, ◌≤◌, List, [], ◌∷◌, Bool, ltb, leb, eqb, length, take, drop}
+use Rattle.std.specs.Prelude.{ℕ, suc, ◌+◌, ◌-◌, ◌<◌, ◌≤◌, List, [], ◌∷◌, Option, Some, None, Bool, ltb, leb, eqb, length, take, drop}
 use Rattle.arena.specs.Branch.{ifte}
+use Rattle.handle.specs.declared.Key.{Key}
 use Rattle.input.specs.inner.Numbers.{unsigned_of, signed_of}
-use Rattle.input.specs.declared.fields.Field.{Field}
-use Rattle.input.specs.declared.fields.Field.TheVariants.{At, Nothing}
-use Rattle.input.specs.declared.numbers.Number.{Number}
-use Rattle.input.specs.declared.numbers.Number as N
-use Rattle.input.specs.declared.numbers.SignedNumber.{SignedNumber}
-use Rattle.input.specs.declared.numbers.SignedNumber as S
-use Rattle.input.specs.declared.fields.NumberField.{NumberField}
-use Rattle.input.specs.declared.fields.NumberField as NF
-use Rattle.input.specs.declared.fields.KeyField.{KeyField}
-use Rattle.input.specs.declared.fields.KeyField as KF
+use Rattle.input.specs.declared.fields.Span.{Span}
 
 -- how many spaces these bytes begin with
 unfoldable pub spaces : List ℕ → ℕ
@@ -33,16 +25,16 @@ unfoldable pub passed : List ℕ → ℕ → ℕ
 passed s i = i + others (drop i s)
 
 -- the field that begins at a, if a lies in the line
-unfoldable pub field_from : List ℕ → ℕ → Field
-field_from s a = ifte (ltb a (length s)) (At a (passed s a)) Nothing
+unfoldable pub field_from : List ℕ → ℕ → Option Span
+field_from s a = ifte (ltb a (length s)) (Some (record { start = a; end = passed s a })) None
 
-unfoldable pub next_field : List ℕ → ℕ → Field
+unfoldable pub next_field : List ℕ → ℕ → Option Span
 next_field s from = field_from s (skipped s from)
 
 -- a field has a byte at least and lies in its line
-abbrev pub InLine : List ℕ → Field → Type 0
-InLine s (At a e) = (a < e) × (e ≤ length s)
-InLine s Nothing = Unit {0}
+abbrev pub InLine : List ℕ → Option Span → Type 0
+InLine s (Some p) = (p.start < p.end) × (p.end ≤ length s)
+InLine s None = Unit {0}
 
 -- no field from i on
 unfoldable pub ends_at : List ℕ → ℕ → Bool
@@ -52,26 +44,36 @@ ends_at s i = leb (length s) (skipped s i)
 abbrev pub part : List ℕ → ℕ → ℕ → List ℕ
 part s a e = take (e - a) (drop a s)
 
-abbrev pub number_to : ℕ → Number → NumberField
-number_to e (N.TheVariants.Is v) = NF.TheVariants.Is v e
-number_to e N.TheVariants.Bad = NF.TheVariants.Bad
+-- what was read of a field that ends at e, if it reads well
+abbrev pub ending : {A : Type 0} → ℕ → Option A → Option (A × ℕ)
+ending e (Some v) = Some (v, e)
+ending e None = None
 
-abbrev pub number_in : List ℕ → Field → NumberField
-number_in s (At a e) = number_to e (unsigned_of (part s a e))
-number_in s Nothing = NF.TheVariants.Bad
+-- what a reader makes of the field's bytes, and where the field ends
+abbrev pub read_in : {A : Type 0} → (List ℕ → Option A) → List ℕ → Option Span → Option (A × ℕ)
+read_in g s (Some p) = ending p.end (g (part s p.start p.end))
+read_in g s None = None
+
+-- the next field as a reader takes it
+abbrev pub field_by : {A : Type 0} → (List ℕ → Option A) → List ℕ → ℕ → Option (A × ℕ)
+field_by g s from = read_in g s (next_field s from)
+
+abbrev pub number_to : ℕ → Option ℕ → Option (ℕ × ℕ)
+number_to e n = ending e n
+
+abbrev pub number_in : List ℕ → Option Span → Option (ℕ × ℕ)
+number_in s f = read_in unsigned_of s f
 
 -- the next field as a number
-unfoldable pub number_field : List ℕ → ℕ → NumberField
+unfoldable pub number_field : List ℕ → ℕ → Option (ℕ × ℕ)
 number_field s from = number_in s (next_field s from)
 
-abbrev pub key_to : ℕ → SignedNumber → KeyField
-key_to e (S.TheVariants.Is k) = KF.TheVariants.Is k e
-key_to e S.TheVariants.Bad = KF.TheVariants.Bad
+abbrev pub key_to : ℕ → Option Key → Option (Key × ℕ)
+key_to e n = ending e n
 
-abbrev pub key_in : List ℕ → Field → KeyField
-key_in s (At a e) = key_to e (signed_of (part s a e))
-key_in s Nothing = KF.TheVariants.Bad
+abbrev pub key_in : List ℕ → Option Span → Option (Key × ℕ)
+key_in s f = read_in signed_of s f
 
 -- the next field as a key
-unfoldable pub key_field : List ℕ → ℕ → KeyField
+unfoldable pub key_field : List ℕ → ℕ → Option (Key × ℕ)
 key_field s from = key_in s (next_field s from)

@@ -1,12 +1,16 @@
-use Rattle.std.proofs.Common.{arith}
-use Rattle.input.proofs.Cutting.{cutting}
+use Rattle.std.proofs.Common.{◌∙◌, ap, eqb, ◌+◌, drop, rules, tests}
+use Rattle.std.proofs.lemmas.Iterator.{YieldsList-from_slice}
+use Rattle.std.proofs.lemmas.Iterator.Adapters.{YieldsList-from_skip}
+use Rattle.std.proofs.lemmas.Iterator.Consumers.{count_from_yields_List}
+use Rattle.std.proofs.lemmas.Iterator.Search.{YieldsList-from_take_while}
+use Rattle.input.specs.inner.Fields.{skipped}
+use Rattle.input.proofs.Cutting.{spaces_are}
 use Rattle.input.proofs.fields.skip_spaces.Goals as goal
 
-pub returns-then-s-i-ne32 : goal.returns-then-s-i-ne32
-returns-then-s-i-ne32 c = search (cutting, arith)
-
-pub loop-i-preserved : goal.loop-i-preserved
-loop-i-preserved c = search (cutting, arith)
-
 pub returns : goal.returns
-returns c = search (cutting, arith)
+unfolding skipped
+returns c =
+    let s = c.args.s.now in
+    let n = c.args.from in
+    let after = YieldsList-from_skip {s = c.skip.result} n (YieldsList-from_slice s cc) c.skip.ensures.count in
+    ap (λ m. n + m) (count_from_yields_List c.take_while.result _ c.count.ensures.ran (YieldsList-from_take_while _ (λ b. eqb b 32) (rw (← c.take_while.ensures.source) at after) c.take_while.ensures.closure c.take_while.ensures.done (λ x b q k. search (rules, tests))) ∙ spaces_are (drop n s))

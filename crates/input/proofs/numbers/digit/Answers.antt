@@ -1,15 +1,10 @@
-use Rattle.input.proofs.Reading.{digit_is}
-use Rattle.arena.proofs.Paths.{paths}
-use Rattle.input.specs.inner.Numbers.{digit_of}
+use Rattle.std.proofs.Common.{arith}
+use Rattle.input.proofs.Reading.{digit_is, no_digit}
 use Rattle.input.proofs.numbers.digit.Goals as goal
 
-pub returns-then-b-lt48 : goal.returns-then-b-lt48
-unfolding digit_of
-returns-then-b-lt48 c = search paths depth 12
+pub returns-then-is_ascii_digit : goal.returns-then-is_ascii_digit
+returns-then-is_ascii_digit c =
+    let h = c.if-is_ascii_digit.ensures.cases in (digit_is c.args.b h.0 h.1, omega (arith, h.1))
 
-pub returns-then-b-gt57 : goal.returns-then-b-gt57
-unfolding digit_of
-returns-then-b-gt57 c = search paths depth 12
-
-pub returns : goal.returns
-returns c = search digit_is
+pub returns-else-is_ascii_digit : goal.returns-else-is_ascii_digit
+returns-else-is_ascii_digit c = no_digit c.args.b c.if-is_ascii_digit.ensures.cases

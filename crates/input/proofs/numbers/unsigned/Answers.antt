@@ -1,27 +1,26 @@
-use Rattle.arena.proofs.Paths.{paths}
-use Rattle.input.proofs.Reading.{read_no_digit, read_tens_over, read_digit_over, read_more, read_end}
-use Rattle.input.specs.inner.Numbers.{unsigned_of}
+use Rattle.std.proofs.Common.{rules}
+use Rattle.input.proofs.Reading.{read_none, read_first, read_no_digit, read_tens_over, read_digit_over, read_more, read_end}
 use Rattle.input.proofs.numbers.unsigned.Goals as goal
 
-pub returns-then-s-lt1 : goal.returns-then-s-lt1
-unfolding unsigned_of
-returns-then-s-lt1 c = search paths depth 12
+pub returns-then-is_empty : goal.returns-then-is_empty
+returns-then-is_empty c = search (rules, read_none)
 
-pub returns-then-d-gt9 : goal.returns-then-d-gt9
-unfolding unsigned_of
-returns-then-d-gt9 c = search (read_no_digit, paths) depth 12
+pub loop-b-init : goal.loop-b-init
+loop-b-init c = search (rules, read_first)
 
-pub returns-then-v-gt1844674407370955161 : goal.returns-then-v-gt1844674407370955161
-unfolding unsigned_of
-returns-then-v-gt1844674407370955161 c = search (read_tens_over, paths) depth 12
+pub returns-in_err-d : goal.returns-in_err-d
+returns-in_err-d c = search (rules, read_no_digit)
 
-pub returns-then-tens-d : goal.returns-then-tens-d
-unfolding unsigned_of
-returns-then-tens-d c = search (read_digit_over, paths) depth 12
+pub returns-in_err-tens : goal.returns-in_err-tens
+returns-in_err-tens c =
+    read_tens_over _ _ _ c.in_ok-d.d 0 _ _ c.from_residual-in_err-tens.ensures c.loop-b-test.true c.in_ok-d.ensures.0 c.in_ok-d.ensures.1 c.in_err-tens.ensures c.loop-b.invariant
 
-pub loop-i-preserved : goal.loop-i-preserved
-loop-i-preserved c = search read_more
+pub returns-in_err-v : goal.returns-in_err-v
+returns-in_err-v c =
+    read_digit_over _ _ _ _ _ _ _ c.from_residual-in_err-v.ensures c.loop-b-test.true c.in_ok-d.ensures.0 c.in_ok-d.ensures.1 c.in_ok-tens.ensures.1 c.in_err-v.ensures c.loop-b.invariant
+
+pub loop-b-preserved : goal.loop-b-preserved
+loop-b-preserved c = search (rules, read_more)
 
 pub returns : goal.returns
-unfolding unsigned_of
-returns c = search (read_end, paths) depth 12
+returns c = search (rules, read_end)

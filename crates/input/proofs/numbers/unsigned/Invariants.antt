@@ -1,9 +1,6 @@
-use Rattle.std.proofs.Common.{length, drop, ◌-◌, ◌≡◌}
-use Rattle.input.specs.inner.Numbers.{read_on}
+use Rattle.std.proofs.Common.{◌≡◌, drop}
+use Rattle.input.specs.inner.Numbers.{read_on, unsigned_of}
 use Rattle.input.proofs.numbers.unsigned.Given as goal
 
-abbrev pub invariant-loop-i : goal.invariant-loop-i
-invariant-loop-i l = read_on (drop l.i l.s) l.v ≡ read_on l.s 0
-
-abbrev pub decreases-loop-i : goal.decreases-loop-i
-decreases-loop-i l = length l.s - l.i
+abbrev pub invariant-loop-b : goal.invariant-loop-b
+invariant-loop-b l = read_on (drop l.b-index l.s) l.v ≡ unsigned_of l.s

@@ -1,23 +1,18 @@
-use Rattle.arena.proofs.Paths.{paths}
-use Rattle.script.proofs.Parts.{no_side_so, side_so}
-use Rattle.script.specs.inner.Sides.{side_at}
+use Rattle.std.proofs.Common.{rules}
+use Rattle.script.proofs.Parts.{no_side, is_less, is_equal, is_greater, is_none}
 use Rattle.script.proofs.sides.side.Goals as goal
 
+pub returns-in_err-k : goal.returns-in_err-k
+returns-in_err-k c = search (rules, no_side)
+
+pub returns-in-minus1 : goal.returns-in-minus1
+returns-in-minus1 c = is_less _ _ c.in_ok-k.ensures (search rules) (search rules)
+
+pub returns-in-0 : goal.returns-in-0
+returns-in-0 c = is_equal _ _ c.in_ok-k.ensures (search rules) (search rules)
+
+pub returns-in-1 : goal.returns-in-1
+returns-in-1 c = is_greater _ _ c.in_ok-k.ensures (search rules) (search rules)
+
 pub returns-in_default : goal.returns-in_default
-returns-in_default c = search no_side_so
-
-pub returns-then-w-eq9223372036854775807 : goal.returns-then-w-eq9223372036854775807
-unfolding side_at
-returns-then-w-eq9223372036854775807 c = search (side_so, paths) depth 12
-
-pub returns-then-w : goal.returns-then-w
-unfolding side_at
-returns-then-w c = search (side_so, paths) depth 12
-
-pub returns-then-w-2 : goal.returns-then-w-2
-unfolding side_at
-returns-then-w-2 c = search (side_so, paths) depth 12
-
-pub returns : goal.returns
-unfolding side_at
-returns c = search (side_so, paths) depth 12
+returns-in_default c = is_none _ _ c.in_ok-k.ensures (search rules) (search rules) (search rules) (search rules)

@@ -1,11 +1,7 @@
-use Rattle.script.proofs.Parts.{no_side, side_is, side_bad}
+use Rattle.std.proofs.Common.{rules, tests}
+use Rattle.script.specs.inner.Sides.{side_read, side_field}
 use Rattle.script.proofs.sides.side_field.Goals as goal
 
-pub returns-in_default : goal.returns-in_default
-returns-in_default c = search no_side
-
-pub returns-in-Is : goal.returns-in-Is
-returns-in-Is c = search side_is
-
-pub returns-in-Bad : goal.returns-in-Bad
-returns-in-Bad c = search side_bad
+pub returns : goal.returns
+unfolding side_field
+returns c = c.field.ensures side_read (λ x v q. search (rules, tests))
