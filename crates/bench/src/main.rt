@@ -6,40 +6,35 @@ mod slots;
 
 use arena::words::{FIELDS, STORE};
 use handle::{Inserted, Key, LIMIT, LaidOut};
-use output::say;
+use output::phrases::Refused;
+use output::{say, say_line};
 use queue::placing;
 
 // Words for one slot more than the limit, so that it is the limit that refuses it.
 const WIDE: usize = STORE + FIELDS as usize;
 
 // Lays the store out, and says to the end of the line how that went: `done`, or the refusal.
-fn tell_laid(s: &mut [u64], capacity: u64, top: u64, done: &[u8]) {
-    let answer = placing::lay_out(s, capacity, top);
-    match answer {
-        LaidOut::Done => say::text(done),
-        LaidOut::Refused(r) => say::refused(r),
+fn tell_laid(s: &mut [u64], capacity: u64, top: u64, done: &str) {
+    match placing::lay_out(s, capacity, top) {
+        LaidOut::Done => say_line!("{done}"),
+        LaidOut::Refused(r) => say_line!("{}", Refused(r)),
     }
 }
 
 fn lay(s: &mut [u64], capacity: u64, top: u64) {
-    say::text(b"capacity ");
-    say::number(capacity);
-    say::text(b" top ");
-    say::number(top);
-    say::text(b": ");
-    tell_laid(s, capacity, top, b"laid out\n");
+    say!("capacity {capacity} top {top}: ");
+    tell_laid(s, capacity, top, "laid out");
 }
 
 // A strike that must be new.
 fn strike(s: &mut [u64], k: i64, value: u64) {
-    let answer = placing::insert(s, Key(k), value);
-    let Inserted::New(_) = answer else {
-        say::text(b"not new\n");
+    let Inserted::New(_) = placing::insert(s, Key(k), value) else {
+        say_line!("not new");
         return;
     };
 }
 
-fn run(s: &mut [u64; WIDE]) {
+fn run(s: &mut [u64]) {
     lay(s, 0, 3);
     lay(s, LIMIT + 1, 3);
     lay(s, 1, 3);
@@ -52,7 +47,6 @@ fn run(s: &mut [u64; WIDE]) {
     listing::print(s);
 }
 
-// A large array is lent whole: where `main` makes a slice of it, the prover counts it out.
 fn main() {
     let mut s = [0u64; WIDE];
     let mut large = [7u64; WIDE];

@@ -1,27 +1,23 @@
 // Lays out stores of several sizes, takes and frees slots to exhaustion and to retirement, and writes what it saw.
-use crate::{WIDE, tell_laid};
+use crate::tell_laid;
 use arena::header::Header;
 use arena::slots::{Freed, Taken};
 use arena::words::STORE;
 use arena::{header, slots};
 use handle::{LIMIT, TOP_LIMIT};
-use output::say;
+use output::{say, say_line};
 
 fn lay(s: &mut [u64], capacity: u64, top: u64) {
-    say::text(b"lay out ");
-    say::number(capacity);
-    say::text(b" slots, top ");
-    say::number(top);
-    say::text(b", in ");
-    say::number(s.len() as u64);
-    say::text(b" numbers: ");
-    tell_laid(s, capacity, top, b"done\n");
+    say!(
+        "lay out {capacity} slots, top {top}, in {} numbers: ",
+        s.len()
+    );
+    tell_laid(s, capacity, top, "done");
 }
 
 // Takes a slot from a store whose header passes.
 fn take(s: &mut [u64]) -> Taken {
-    let h = header::test(s);
-    match h {
+    match header::test(s) {
         Header::Passes(cap) => slots::take(s, cap),
         Header::Fails => Taken::NotSound,
     }
@@ -29,58 +25,44 @@ fn take(s: &mut [u64]) -> Taken {
 
 // Takes a slot and says which.
 fn take_one(s: &mut [u64]) {
-    let answer = take(s);
-    match answer {
-        Taken::At(h) => {
-            say::text(b"take: slot ");
-            say::number(h.slot.0);
-            say::text(b" generation ");
-            say::number(h.generation.0);
-            say::text(b"\n");
-        }
-        Taken::Full => say::text(b"take: none free\n"),
-        Taken::NotSound => say::text(b"take: not sound\n"),
+    match take(s) {
+        Taken::At(h) => say_line!("take: slot {} generation {}", h.slot.0, h.generation.0),
+        Taken::Full => say_line!("take: none free"),
+        Taken::NotSound => say_line!("take: not sound"),
     }
 }
 
 // Frees a slot and says what became of it.
 fn free_one(s: &mut [u64], i: u64) {
-    say::text(b"free ");
-    say::number(i);
-    let h = header::test(s);
-    let Header::Passes(cap) = h else {
-        say::text(b": not sound\n");
+    say!("free {i}: ");
+    let Header::Passes(cap) = header::test(s) else {
+        say_line!("not sound");
         return;
     };
     if cap <= i {
-        say::text(b": no such slot\n");
+        say_line!("no such slot");
         return;
     }
-    let answer = slots::free(s, cap, i);
-    match answer {
-        Freed::Again => say::text(b": free again\n"),
-        Freed::GenerationOverflow => say::text(b": GenerationOverflow, retired\n"),
-        Freed::NotSound => say::text(b": not sound\n"),
+    match slots::free(s, cap, i) {
+        Freed::Again => say_line!("free again"),
+        Freed::GenerationOverflow => say_line!("GenerationOverflow, retired"),
+        Freed::NotSound => say_line!("not sound"),
     }
 }
 
 // Takes slots until none is free, at most `most`, and tells how many.
 fn exhaust(s: &mut [u64], most: u64) -> u64 {
-    let mut n: u64 = 0;
-    while n < most {
+    for taken in 0..most {
         let Taken::At(_) = take(s) else {
-            break;
+            return taken;
         };
-        n += 1;
     }
-    n
+    most
 }
 
 fn take_all(s: &mut [u64], most: u64) {
     let n = exhaust(s, most);
-    say::text(b"took ");
-    say::number(n);
-    say::text(b" slots\n");
+    say_line!("took {n} slots");
 }
 
 // One slot with two lives.
@@ -116,7 +98,7 @@ fn lay_short(s: &mut [u64]) {
 }
 
 // What laying out refuses, and the most slots taken to the last.
-pub fn most_slots(s: &mut [u64; WIDE]) {
+pub fn most_slots(s: &mut [u64]) {
     lay(s, 0, 3);
     lay(s, LIMIT + 1, 3);
     lay(s, LIMIT, 0);

@@ -2,8 +2,8 @@
 use crate::Store;
 use arena::words::{FIELDS, STORE};
 use handle::{Handle, LIMIT};
-use output::say;
-use tower::clock;
+use output::say_line;
+use tower::clock::OnDrum;
 use tower::planning::{lay, plan};
 
 // Seconds into the day.
@@ -31,47 +31,41 @@ pub struct Planned {
 // Words for one slot more than the limit, so that it is the limit that refuses it.
 const WIDE: usize = STORE + FIELDS as usize;
 
-fn lay_wide(s: &mut [u64; WIDE]) {
-    lay(s, LIMIT + 1, 9);
-}
-
 pub fn lay_out(s: &mut Store) {
     let mut wide = [0u64; WIDE];
-    say::text(b"A queue is laid out. Before that no strike can be planned.\n");
-    plan(s, clock::hour(SIX), 6);
+    say_line!("A queue is laid out. Before that no strike can be planned.");
+    plan(s, OnDrum::hour(SIX), 6);
     lay(s, 0, 9);
-    lay_wide(&mut wide);
+    lay(&mut wide, LIMIT + 1, 9);
     lay(s, 7, 9);
     lay(s, 6, 9);
 }
 
 pub fn plan_all(s: &mut Store) -> Planned {
-    say::text(
-        b"The hour's strikes are planned in no order, seven o'clock with six strokes by mistake.\n",
+    say_line!(
+        "The hour's strikes are planned in no order, seven o'clock with six strokes by mistake."
     );
-    say::text(
-        b"At seven the quarters and the hour are due on the same second, each on its drum.\n",
-    );
-    let seven = plan(s, clock::hour(SEVEN), 6);
-    let quarter = plan(s, clock::quarter(FIRST_QUARTER), 1);
-    plan(s, clock::quarter(LAST_QUARTER), 3);
-    plan(s, clock::hour(SIX), 6);
-    let half = plan(s, clock::quarter(HALF), 2);
-    plan(s, clock::quarter(SEVEN), 4);
-    plan(s, clock::bell(EVENING_BELL), 33);
-    plan(s, clock::hour(MIDNIGHT), 12);
-    plan(s, clock::no_drum(SEVEN), 7);
-    let again = plan(s, clock::hour(SEVEN), 7);
+    say_line!("At seven the quarters and the hour are due on the same second, each on its drum.");
+    let seven = plan(s, OnDrum::hour(SEVEN), 6);
+    let quarter = plan(s, OnDrum::quarter(FIRST_QUARTER), 1);
+    plan(s, OnDrum::quarter(LAST_QUARTER), 3);
+    plan(s, OnDrum::hour(SIX), 6);
+    let half = plan(s, OnDrum::quarter(HALF), 2);
+    plan(s, OnDrum::quarter(SEVEN), 4);
+    plan(s, OnDrum::bell(EVENING_BELL), 33);
+    plan(s, OnDrum::hour(MIDNIGHT), 12);
+    plan(s, OnDrum::no_drum(SEVEN), 7);
+    let again = plan(s, OnDrum::hour(SEVEN), 7);
     compare(seven, again);
     Planned { quarter, half }
 }
 
 // Says whether two handles are the same.
 fn compare(before: Handle, now: Handle) {
-    say::text(b"  its handle: ");
-    if before.slot.0 == now.slot.0 && before.generation.0 == now.generation.0 {
-        say::text(b"the same as before\n");
+    let found = if before == now {
+        "the same as"
     } else {
-        say::text(b"another than before\n");
-    }
+        "another than"
+    };
+    say_line!("  its handle: {found} before");
 }

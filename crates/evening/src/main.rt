@@ -6,8 +6,8 @@ mod bell;
 mod hour;
 
 use arena::words::{FIELDS, HEAD_WORDS};
-use output::say;
-use tower::clock;
+use output::{say, say_line};
+use tower::clock::{DAY, OFFSET};
 
 // What the clock lends: the numbers that six slots take.
 const LENT: usize = (HEAD_WORDS + 6 * FIELDS) as usize;
@@ -15,16 +15,13 @@ const LENT: usize = (HEAD_WORDS + 6 * FIELDS) as usize;
 type Store = [u64; LENT];
 
 fn open() {
-    say::text(b"An evening of strikes: day ");
-    say::signed(clock::DAY);
-    say::text(b" from 1 January 1970, clock ");
-    say::signed(clock::OFFSET);
-    say::text(b" seconds east of Greenwich.\n");
+    say!("An evening of strikes: day {DAY} from 1 January 1970, ");
+    say_line!("clock {OFFSET} seconds east of Greenwich.");
 }
 
 fn list(s: &Store) {
-    say::text(
-        b"The listing: the slots; then key, strokes, slot, generation and rank of each strike.\n",
+    say_line!(
+        "The listing: the slots; then key, strokes, slot, generation and rank of each strike."
     );
     listing::print(s);
 }

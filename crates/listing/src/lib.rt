@@ -1,5 +1,5 @@
 // Document 01's listing: `live L free F retired R`, then a line for each entry in order. The cursor walks the chain; ranks are
-// the store's words. It is written into a buffer, or at once on standard output.
+// the store's words. It is written by `{}`, into a buffer or at once on standard output.
 #![tactic(auto)]
 
 pub mod walking;
@@ -11,114 +11,91 @@ use arena::header::Header;
 use arena::words::{HEIGHT, RANK};
 use arena::{header, words};
 use handle::{Handle, Reading, Refusal};
-use output::out::ROOM;
-use output::{out, say};
+use output::phrases::Refused;
+use output::{say, say_line};
 use queue::looking;
-use walking::{Walk, Walked};
+use std::fmt;
+use std::fmt::{Display, Formatter};
+use walking::Walk;
 
 // Lists at once on standard output.
-pub fn print(s: &[u64]) {
-    let mut o = io::large_buffer();
-    let mut at: usize = 0;
-    if list(s, &mut o, &mut at) {
-        out::flush(&mut o, &mut at);
-    } else {
-        say::refused(Refusal::NotSound);
+pub fn print(store: &[u64]) {
+    match Listing::of(store) {
+        Ok(listing) => say!("{listing}"),
+        Err(r) => say_line!("{}", Refused(r)),
     }
 }
 
-// Lists into a buffer, where the header passes. Answers whether it does.
-pub fn list(s: &[u64], o: &mut [u8; ROOM], at: &mut usize) -> bool {
-    let h = header::test(s);
-    match h {
-        Header::Passes(cap) => {
-            counts(s, cap, o, at);
-            list_entries(s, cap, o, at);
-            true
+// A store whose header passes, to be listed.
+#[derive(Clone, Copy)]
+pub struct Listing<'a> {
+    pub store: &'a [u64],
+    pub capacity: u64,
+    pub ghost room: { Room store.now capacity },
+}
+
+impl<'a> Listing<'a> {
+    pub fn of(store: &'a [u64]) -> Result<Listing<'a>, Refusal> {
+        match header::test(store) {
+            Header::Passes(capacity) => Ok(Listing { store, capacity }),
+            Header::Fails => Err(Refusal::NotSound),
         }
-        Header::Fails => false,
+    }
+
+    // The handles of the entries in order. No chain has more entries than slots.
+    pub fn entries(&self) -> Walk<'a> {
+        Walk::first(self.store, self.capacity)
+    }
+
+    // How many entries the chain has.
+    pub fn live(&self) -> u64 {
+        self.entries().count() as u64
+    }
+
+    // The key and the value of an entry, or the number of the refusal.
+    pub fn key_and_value<W: fmt::Write>(&self, h: Handle, f: &mut Formatter<W>) -> fmt::Result {
+        match looking::read(self.store, h) {
+            Reading::Entry(e) => write!(f, "{e}"),
+            Reading::Refused(r) => write!(f, "{}", r.number()),
+        }
+    }
+
+    // A space, and the rank of a slot.
+    pub fn rank<W: fmt::Write>(&self, slot: u64, f: &mut Formatter<W>) -> fmt::Result {
+        if slot < self.capacity {
+            write!(
+                f,
+                " {}",
+                words::field(self.store, self.capacity, slot, RANK)
+            )
+        } else {
+            Ok(())
+        }
+    }
+
+    // `live L free F retired R`: a slot that is neither live nor free is retired.
+    fn counts<W: fmt::Write>(&self, f: &mut Formatter<W>) -> fmt::Result {
+        let live = self.live();
+        let free = words::head(self.store, HEIGHT);
+        let retired = self.capacity.saturating_sub(live).saturating_sub(free);
+        writeln!(f, "live {live} free {free} retired {retired}")
+    }
+
+    // `KEY VALUE SLOT GENERATION RANK`
+    fn entry<W: fmt::Write>(&self, h: Handle, f: &mut Formatter<W>) -> fmt::Result {
+        self.key_and_value(h, f)?;
+        write!(f, " {} {}", h.slot.0, h.generation.0)?;
+        self.rank(h.slot.0, f)?;
+        writeln!(f)
     }
 }
 
-// How many entries the chain has, counted up to `most`.
-pub fn chain_length(s: &[u64], most: u64) -> u64 {
-    let mut n: u64 = 0;
-    let mut w = Walk::first(s, most);
-    loop {
-        let Walked::At(_, on) = w.next(s) else {
-            break;
-        };
-        n += 1;
-        w = on;
-    }
-    n
-}
-
-// `live L free F retired R`: a slot that is neither live nor free is retired.
-fn counts(s: &[u64], cap: u64, o: &mut [u8; ROOM], at: &mut usize)
-    requires { Room s.now cap }
-{
-    let live = chain_length(s, cap);
-    let free = words::head(s, HEIGHT);
-    out::text(o, at, b"live ");
-    out::number(o, at, live);
-    out::text(o, at, b" free ");
-    out::number(o, at, free);
-    out::text(o, at, b" retired ");
-    out::number(o, at, rest(cap, live, free));
-    out::byte(o, at, b'\n');
-}
-
-// What is left of `all` without two parts; 0 where they are too large.
-fn rest(all: u64, one: u64, other: u64) -> u64 {
-    if all < one {
-        return 0;
-    }
-    if all - one < other {
-        return 0;
-    }
-    all - one - other
-}
-
-fn list_entries(s: &[u64], cap: u64, o: &mut [u8; ROOM], at: &mut usize)
-    requires { Room s.now cap }
-{
-    let mut w = Walk::first(s, cap);
-    loop {
-        let Walked::At(h, on) = w.next(s) else {
-            break;
-        };
-        list_entry(s, cap, h, o, at);
-        w = on;
-    }
-}
-
-// `KEY VALUE SLOT GENERATION RANK`
-fn list_entry(s: &[u64], cap: u64, h: Handle, o: &mut [u8; ROOM], at: &mut usize)
-    requires { Room s.now cap }
-{
-    key_and_value(s, h, o, at);
-    let i = h.slot.0;
-    out::more(o, at, i);
-    out::more(o, at, h.generation.0);
-    rank(s, cap, i, o, at);
-    out::byte(o, at, b'\n');
-}
-
-// The key and the value of an entry, or the number of the refusal.
-pub fn key_and_value(s: &[u64], h: Handle, o: &mut [u8; ROOM], at: &mut usize) {
-    let answer = looking::read(s, h);
-    match answer {
-        Reading::Entry(e) => out::entry(o, at, e),
-        Reading::Refused(r) => out::number(o, at, r.number()),
-    }
-}
-
-// A space, and the rank of a slot.
-pub fn rank(s: &[u64], cap: u64, i: u64, o: &mut [u8; ROOM], at: &mut usize)
-    requires { Room s.now cap }
-{
-    if i < cap {
-        out::more(o, at, words::field(s, cap, i, RANK));
+impl<'a> Display for Listing<'a> {
+    fn fmt<W: fmt::Write>(&self, f: &mut Formatter<W>) -> fmt::Result {
+        self.counts(f)?;
+        for h in self.entries() {
+            self.entry(h, f)?;
+        }
+        Ok(())
     }
 }

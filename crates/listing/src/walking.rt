@@ -1,49 +1,45 @@
-// A walk along the chain by the cursor, from the first entry on, within a budget: what a loop over the entries needs to end.
+// A walk along the chain by the cursor, from the first entry on: the handles of the entries, at most so many.
 ghost use Rattle.std.specs.Prelude.{◌≡◌};
-ghost use Rattle.listing.specs.inner.Walking.{Nearer};
+ghost use Rattle.std.specs.Iterator.{at_most};
 
 use handle::Handle;
 use queue::cursor::{Cursor, Moved};
 
-// Where the cursor has come to, and how many entries may still be handed out.
-#[derive(Clone, Copy)]
-pub struct Walk {
-    pub moved: Moved,
+// Where the cursor has come to, and how many entries may still be handed out. It is over at the chain's end, at a refusal, or
+// when none may.
+#[derive(Drop)]
+pub struct Walk<'a> {
+    store: &'a [u64],
+    moved: Moved,
     pub left: u64,
 }
 
-// An entry and the walk behind it; or no more, at the chain's end, at a refusal, or when the budget is spent.
-#[derive(Drop)]
-pub enum Walked {
-    At(Handle, Walk),
-    Over,
-}
-
-impl Walk {
-    pub fn first(s: &[u64], most: u64) -> Walk
+impl<'a> Walk<'a> {
+    pub fn first(store: &'a [u64], most: u64) -> Walk<'a>
         ensures { result.left ≡ most }
     {
         Walk {
-            moved: Cursor::first(s),
+            store,
+            moved: Cursor::first(store),
             left: most,
         }
     }
+}
 
-    pub fn next(self, s: &[u64]) -> Walked
-        ensures { Nearer self.left result }
-    {
-        if self.left < 1 {
-            return Walked::Over;
+impl<'a> Iterator for Walk<'a> {
+    type Item = Handle;
+
+    ghost remaining = { λ walk. at_most walk.left };
+
+    fn next(&mut self) -> Option<Handle> {
+        if self.left == 0 {
+            return None;
         }
-        let m = self.moved;
-        let Moved::At(c) = m else {
-            return Walked::Over;
+        let Moved::At(cursor) = self.moved else {
+            return None;
         };
-        let h = c.handle;
-        let on = Walk {
-            moved: c.forward(s),
-            left: self.left - 1,
-        };
-        Walked::At(h, on)
+        self.moved = cursor.forward(self.store);
+        self.left -= 1;
+        Some(cursor.handle)
     }
 }

@@ -1,92 +1,95 @@
 // A script's `dump`: the entries in order, walked by the cursor, with ranks and links as the store has them.
-// `t` is the table of insertions' numbers, by which entries are named. It is many lines, written as they are found.
+// Entries are named by the numbers of their insertions. `{}` writes it, in many lines.
 ghost use Rattle.std.specs.Prelude.{◌<◌};
-ghost use Rattle.arena.specs.Words.{Room};
 
-use arena::header::Header;
+use arena::words;
 use arena::words::{BACK, FIRST, LAST, LEFT, NEXT, PREV, RIGHT, ROOT};
-use arena::{header, words};
-use handle::Handle;
-use listing::walking::{Walk, Walked};
-use listing::{chain_length, key_and_value, rank};
-use output::out;
-use output::out::ROOM;
+use handle::{Handle, Refusal};
+use listing::Listing;
 use script::table::Table;
+use std::fmt;
+use std::fmt::{Display, Formatter};
 
-// Dumps into the buffer, where the header passes. Answers whether it does.
-pub fn dump(s: &[u64], t: &Table, o: &mut [u8; ROOM], at: &mut usize) -> bool {
-    let h = header::test(s);
-    match h {
-        Header::Passes(cap) => {
-            ends(s, cap, t, o, at);
-            dump_entries(s, cap, t, o, at);
-            true
+// A store whose header passes, to be dumped, and the table of insertions' numbers.
+#[derive(Drop)]
+pub struct Dump<'a> {
+    listing: Listing<'a>,
+    table: &'a Table,
+}
+
+impl<'a> Dump<'a> {
+    pub fn of(store: &'a [u64], table: &'a Table) -> Result<Dump<'a>, Refusal> {
+        let listing = Listing::of(store)?;
+        Ok(Dump { listing, table })
+    }
+
+    // `dump LIVE root N first N last N`
+    fn ends<W: fmt::Write>(&self, f: &mut Formatter<W>) -> fmt::Result {
+        write!(f, "dump {}", self.listing.live())?;
+        write!(
+            f,
+            " root {}",
+            self.link(words::head(self.listing.store, ROOT))
+        )?;
+        write!(
+            f,
+            " first {}",
+            self.link(words::head(self.listing.store, FIRST))
+        )?;
+        writeln!(
+            f,
+            " last {}",
+            self.link(words::head(self.listing.store, LAST))
+        )
+    }
+
+    // `N KEY VALUE RANK BACK LEFT RIGHT PREV NEXT`
+    fn entry<W: fmt::Write>(&self, h: Handle, f: &mut Formatter<W>) -> fmt::Result {
+        let slot = h.slot.0;
+        write!(f, "{} ", self.table.number_of(slot))?;
+        self.listing.key_and_value(h, f)?;
+        self.listing.rank(slot, f)?;
+        let Listing { store, capacity } = self.listing;
+        if slot < capacity {
+            for field in [BACK, LEFT, RIGHT, PREV, NEXT] {
+                write!(
+                    f,
+                    " {}",
+                    self.link(words::field(store, capacity, slot, field))
+                )?;
+            }
         }
-        Header::Fails => false,
+        writeln!(f)
+    }
+
+    fn link(&self, slot: u64) -> Link {
+        if slot == Handle::NO_SLOT {
+            Link(None)
+        } else {
+            Link(Some(self.table.number_of(slot)))
+        }
     }
 }
 
-// `dump LIVE root N first N last N`
-fn ends(s: &[u64], cap: u64, t: &Table, o: &mut [u8; ROOM], at: &mut usize)
-    requires { Room s.now cap }
-{
-    let root = words::head(s, ROOT);
-    let first = words::head(s, FIRST);
-    let last = words::head(s, LAST);
-    out::text(o, at, b"dump ");
-    out::number(o, at, chain_length(s, cap));
-    out::text(o, at, b" root");
-    link(t, o, at, root);
-    out::text(o, at, b" first");
-    link(t, o, at, first);
-    out::text(o, at, b" last");
-    link(t, o, at, last);
-    out::byte(o, at, b'\n');
-}
-
-// A space, and the number of the insertion whose entry is in a slot, or `-` for no slot.
-fn link(t: &Table, o: &mut [u8; ROOM], at: &mut usize, slot: u64) {
-    if slot == Handle::NO_SLOT {
-        out::text(o, at, b" -");
-    } else {
-        out::more(o, at, t.number_of(slot));
+impl<'a> Display for Dump<'a> {
+    fn fmt<W: fmt::Write>(&self, f: &mut Formatter<W>) -> fmt::Result {
+        self.ends(f)?;
+        for h in self.listing.entries() {
+            self.entry(h, f)?;
+        }
+        Ok(())
     }
 }
 
-fn dump_entries(s: &[u64], cap: u64, t: &Table, o: &mut [u8; ROOM], at: &mut usize)
-    requires { Room s.now cap }
-{
-    let mut w = Walk::first(s, cap);
-    loop {
-        let Walked::At(h, on) = w.next(s) else {
-            break;
-        };
-        dump_entry(s, cap, h, t, o, at);
-        w = on;
-    }
-}
+// The number of the insertion whose entry is in a slot, or `-` for no slot.
+#[derive(Drop)]
+struct Link(Option<u64>);
 
-// `N KEY VALUE RANK BACK LEFT RIGHT PREV NEXT`
-fn dump_entry(s: &[u64], cap: u64, h: Handle, t: &Table, o: &mut [u8; ROOM], at: &mut usize)
-    requires { Room s.now cap }
-{
-    let i = h.slot.0;
-    out::number(o, at, t.number_of(i));
-    out::byte(o, at, b' ');
-    key_and_value(s, h, o, at);
-    rank(s, cap, i, o, at);
-    links(s, cap, i, t, o, at);
-    out::byte(o, at, b'\n');
-}
-
-fn links(s: &[u64], cap: u64, i: u64, t: &Table, o: &mut [u8; ROOM], at: &mut usize)
-    requires { Room s.now cap }
-{
-    if i < cap {
-        link(t, o, at, words::field(s, cap, i, BACK));
-        link(t, o, at, words::field(s, cap, i, LEFT));
-        link(t, o, at, words::field(s, cap, i, RIGHT));
-        link(t, o, at, words::field(s, cap, i, PREV));
-        link(t, o, at, words::field(s, cap, i, NEXT));
+impl Display for Link {
+    fn fmt<W: fmt::Write>(&self, f: &mut Formatter<W>) -> fmt::Result {
+        match self.0 {
+            Some(n) => write!(f, "{n}"),
+            None => write!(f, "-"),
+        }
     }
 }

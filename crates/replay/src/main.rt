@@ -4,62 +4,56 @@
 
 mod dumping;
 
-use answers::answer;
 use answers::answer::Answer;
-use arena::words::STORE;
+use dumping::Dump;
 use handle::Refusal;
 use input::lines::{Line, Reader};
-use output::out;
-use output::out::{ROOM, STANDARD_ERROR};
+use listing::Listing;
+use output::out::{Out, STANDARD_ERROR};
 use script::command;
 use script::command::Command;
-use script::table::Table;
+use serve::Served;
+use std::fmt::Display;
 
 // The longest line that is read.
 const LONGEST: usize = 128;
 
 // Carries a command out and writes its answer.
-fn respond(
-    c: Command,
-    s: &mut [u64; STORE],
-    t: &mut Table,
-    o: &mut [u8; ROOM],
-    at: &mut usize,
-) {
-    match c {
-        Command::List => {
-            let is_passed = listing::list(s, o, at);
-            refuse_unless(is_passed, o, at);
-        }
-        Command::Dump => {
-            let is_passed = dumping::dump(s, t, o, at);
-            refuse_unless(is_passed, o, at);
-        }
-        _ => {
-            let a = serve::carry_out(c, s, t);
-            answer::write(o, at, a);
-        }
-    }
+fn respond(c: Command, served: &mut Served, out: &mut Out) {
+    let answer = match c {
+        Command::Nothing => Answer::Nothing,
+        Command::Bad => Answer::BadLine,
+        Command::Unknown => Answer::Unknown,
+        Command::New(capacity, top) => served.lay_out(capacity, top),
+        Command::Insert(place, key, value) => served.insert(place, key, value),
+        Command::Ahead(place, key) => served.look_ahead(place, key),
+        Command::Remove(n) => served.remove(n),
+        Command::Get(n) => served.get(n),
+        Command::Find(key) => served.find(key),
+        Command::Next(n) => served.next(n),
+        Command::Prev(n) => served.prev(n),
+        Command::First => served.first(),
+        Command::Last => served.last(),
+        Command::List => return show(Listing::of(&served.store), out),
+        Command::Dump => return show(Dump::of(&served.store, &served.table), out),
+        Command::Check => served.check(),
+    };
+    write!(out, "{answer}");
 }
 
-// Where the header fails, nothing is written but the refusal.
-fn refuse_unless(is_passed: bool, o: &mut [u8; ROOM], at: &mut usize) {
-    if !is_passed {
-        answer::write(o, at, Answer::Refused(Refusal::NotSound));
+// Writes what takes many lines. Where the header fails, nothing is written but the refusal.
+fn show<D: Display + Drop>(shown: Result<D, Refusal>, out: &mut Out) {
+    match shown {
+        Ok(lines) => write!(out, "{lines}"),
+        Err(r) => write!(out, "{}", Answer::Refused(r)),
     }
 }
 
 // Serves what a call of the reader came to, and says whether more may follow.
-fn serve_line(
-    got: Line<'_>,
-    s: &mut [u64; STORE],
-    t: &mut Table,
-    o: &mut [u8; ROOM],
-    at: &mut usize,
-) -> bool {
+fn serve_line(got: Line<'_>, served: &mut Served, out: &mut Out) -> bool {
     match got {
-        Line::Whole(text) => respond(command::read(text), s, t, o, at),
-        Line::TooLong => respond(Command::Bad, s, t, o, at),
+        Line::Whole(text) => respond(command::read(text), served, out),
+        Line::TooLong => respond(Command::Bad, served, out),
         Line::Begun => {}
         Line::Failed => tell_failed(),
         Line::End => return false,
@@ -75,15 +69,9 @@ fn tell_failed() {
 }
 
 // A proved loop has to end, and nothing says that the input does: so it has more turns than any run uses up.
-fn serve_all(
-    reader: &mut Reader<'_>,
-    s: &mut [u64; STORE],
-    t: &mut Table,
-    o: &mut [u8; ROOM],
-    at: &mut usize,
-) {
+fn serve_all(reader: &mut Reader<'_>, served: &mut Served, out: &mut Out) {
     for _ in 0..u64::MAX {
-        if !serve_line(reader.next(), s, t, o, at) {
+        if !serve_line(reader.next(), served, out) {
             break;
         }
     }
@@ -93,11 +81,8 @@ fn main(rt: HostRuntime) {
     let mut part = io::large_buffer();
     let mut line = [0u8; LONGEST];
     let mut reader = Reader::new(rt.stdin(), &mut part, &mut line);
-    // Zeros are no laid out store: until the first `new` every call finds that its header fails.
-    let mut s = [0u64; STORE];
-    let mut t = Table::new();
-    let mut o = io::large_buffer();
-    let mut at: usize = 0;
-    serve_all(&mut reader, &mut s, &mut t, &mut o, &mut at);
-    out::flush(&mut o, &mut at);
+    let mut served = Served::new();
+    let mut out = Out::new();
+    serve_all(&mut reader, &mut served, &mut out);
+    out.flush();
 }

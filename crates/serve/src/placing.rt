@@ -1,65 +1,52 @@
 // The commands that change the queue: `new`, the three insertions, `rem`.
+use crate::Served;
 use answers::answer::Answer;
-use arena::words::STORE;
 use handle::{Inserted, Key, LaidOut, Removed};
-use queue::taking;
+use queue::{placing, taking};
 use script::command::Place;
-use script::table::{NUMBERS, Table};
+use script::table::NUMBERS;
 
-// A refused `new` leaves the earlier queue and its numbers as they were.
-pub fn lay_out(s: &mut [u64; STORE], t: &mut Table, capacity: u64, top: u64) -> Answer {
-    let answer = queue::placing::lay_out(s, capacity, top);
-    match answer {
-        LaidOut::Done => {
-            t.clear();
-            Answer::Done
-        }
-        LaidOut::Refused(r) => Answer::Refused(r),
-    }
-}
-
-// An insertion, unless every number has been given: then it is not tried.
-pub fn insertion(
-    s: &mut [u64; STORE],
-    t: &mut Table,
-    place: Place,
-    key: Key,
-    value: u64,
-) -> Answer {
-    if NUMBERS <= t.count() {
-        return Answer::Full;
-    }
-    let answer = insert_at(s, t, place, key, value);
-    match answer {
-        Inserted::New(h) => Answer::New(t.give(h)),
-        Inserted::Replacing(h, old) => Answer::Replaced(t.number_of(h.slot.0), old),
-        Inserted::Refused(r) => Answer::Refused(r),
-    }
-}
-
-fn insert_at(
-    s: &mut [u64; STORE],
-    t: &Table,
-    place: Place,
-    key: Key,
-    value: u64,
-) -> Inserted {
-    match place {
-        Place::Normal => queue::placing::insert(s, key, value),
-        Place::Empty => queue::placing::insert_empty(s, key, value),
-        Place::Manual(n, side) => {
-            let h = t.handle_of(n);
-            queue::placing::insert_manual(s, h, side, key, value)
+impl Served {
+    // A refused `new` leaves the earlier queue and its numbers as they were.
+    pub fn lay_out(&mut self, capacity: u64, top: u64) -> Answer {
+        match placing::lay_out(&mut self.store, capacity, top) {
+            LaidOut::Done => {
+                self.table.clear();
+                Answer::Done
+            }
+            LaidOut::Refused(r) => Answer::Refused(r),
         }
     }
-}
 
-pub fn remove(s: &mut [u64; STORE], t: &Table, n: u64) -> Answer {
-    let h = t.handle_of(n);
-    let answer = taking::remove(s, h);
-    match answer {
-        Removed::Entry(e) => Answer::Removed(n, e),
-        Removed::GenerationOverflow(e) => Answer::RemovedForGood(n, e),
-        Removed::Refused(r) => Answer::Refused(r),
+    // An insertion, unless every number has been given: then it is not tried.
+    pub fn insert(&mut self, place: Place, key: Key, value: u64) -> Answer {
+        if NUMBERS <= self.table.count() {
+            return Answer::Full;
+        }
+        match self.insert_at(place, key, value) {
+            Inserted::New(h) => Answer::New(self.table.give(h)),
+            Inserted::Replacing(h, old) => Answer::Replaced(self.number_of(h.slot), old),
+            Inserted::Refused(r) => Answer::Refused(r),
+        }
+    }
+
+    fn insert_at(&mut self, place: Place, key: Key, value: u64) -> Inserted {
+        match place {
+            Place::Normal => placing::insert(&mut self.store, key, value),
+            Place::Empty => placing::insert_empty(&mut self.store, key, value),
+            Place::Manual(n, side) => {
+                let h = self.handle_of(n);
+                placing::insert_manual(&mut self.store, h, side, key, value)
+            }
+        }
+    }
+
+    pub fn remove(&mut self, n: u64) -> Answer {
+        let h = self.handle_of(n);
+        match taking::remove(&mut self.store, h) {
+            Removed::Entry(e) => Answer::Removed(n, e),
+            Removed::GenerationOverflow(e) => Answer::RemovedForGood(n, e),
+            Removed::Refused(r) => Answer::Refused(r),
+        }
     }
 }

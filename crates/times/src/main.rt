@@ -9,7 +9,7 @@ mod text;
 use due::{BadTime, Drum, Time};
 use handle::Key;
 use input::lines::{Line, Reader};
-use output::say;
+use output::{console, say, say_line};
 use text::Asked;
 
 // Bytes that are kept of a line: the longest question, of four numbers, has 87.
@@ -17,37 +17,31 @@ const LINE: usize = 96;
 
 fn show_key(answer: Result<Key, BadTime>) {
     match answer {
-        Ok(key) => say::signed(key.0),
-        Err(BadTime) => say::text(b"refused 6"),
+        Ok(key) => say!("{key}"),
+        Err(BadTime) => say!("refused 6"),
     }
 }
 
 fn show_time(answer: Result<(Time, Drum), BadTime>) {
     match answer {
-        Ok((time, drum)) => {
-            say::signed(time.day.0);
-            say::text(b" ");
-            say::signed(time.second.0);
-            say::text(b" ");
-            say::signed(drum.0);
-        }
-        Err(BadTime) => say::text(b"refused 6"),
+        Ok((time, drum)) => say!("{} {} {}", time.day.0, time.second.0, drum.0),
+        Err(BadTime) => say!("refused 6"),
     }
 }
 
 fn answer(line: &[u8]) {
-    say::text(line);
+    console::bytes(line);
     if text::is_remark(line) {
-        say::text(b"\n");
+        say_line!("");
         return;
     }
-    say::text(b" -> ");
+    say!(" -> ");
     match text::question(line) {
         Some(Asked::Key(time, offset, drum)) => show_key(due::key_of(time, offset, drum)),
         Some(Asked::Time(key, offset)) => show_time(due::time_of(key, offset)),
-        None => say::text(b"no question"),
+        None => say!("no question"),
     }
-    say::text(b"\n");
+    say_line!("");
 }
 
 // A proved loop has to end, and nothing says that the input does: so it has more turns than any run uses up.
@@ -55,7 +49,7 @@ fn answer_all(reader: &mut Reader<'_>) {
     for _ in 0..u64::MAX {
         match reader.next() {
             Line::Whole(line) => answer(line),
-            Line::TooLong => say::text(b"(a line that is too long) -> no question\n"),
+            Line::TooLong => say_line!("(a line that is too long) -> no question"),
             Line::Begun | Line::Failed => {}
             Line::End => break,
         }

@@ -3,21 +3,21 @@ use arena::header::Header;
 use arena::words::NEXT;
 use arena::{header, words};
 use handle::Handle;
-use output::say;
+use output::say_line;
+use queue::looking;
 
 // Says whether the store is sound.
 pub fn check(s: &[u64]) {
-    if queue::looking::check(s) {
-        say::text(b"sound\n");
+    if looking::check(s) {
+        say_line!("sound");
     } else {
-        say::text(b"not sound\n");
+        say_line!("not sound");
     }
 }
 
 // The strike that h names loses its link to the next one.
 pub fn lose_link(s: &mut [u64], h: Handle) {
-    let t = header::test(s);
-    let Header::Passes(cap) = t else {
+    let Header::Passes(cap) = header::test(s) else {
         return;
     };
     let i = h.slot.0;

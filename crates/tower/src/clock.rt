@@ -1,7 +1,9 @@
 // The tower's clock: the day of this evening, its offset and its drums, and times and strikes as a clockmaker writes them.
-use due::{BadTime, DRUM_HIGH, Drum, Offset, Second, Time};
+use due::{DRUM_HIGH, Drum, Offset, Second};
 use handle::{Entry, Refusal};
-use output::{say, signs};
+use output::phrases::{Counted, Refused};
+use std::fmt;
+use std::fmt::{Display, Formatter};
 
 // Days from 1 January 1970, and seconds east of Greenwich.
 pub const DAY: i64 = 20_772;
@@ -22,83 +24,92 @@ pub struct OnDrum {
     pub drum: Drum,
 }
 
-pub fn quarter(second: i64) -> OnDrum {
-    on_drum(second, Drum(QUARTER_DRUM))
+impl OnDrum {
+    pub fn quarter(second: i64) -> OnDrum {
+        OnDrum::new(second, QUARTER_DRUM)
+    }
+
+    pub fn hour(second: i64) -> OnDrum {
+        OnDrum::new(second, HOUR_DRUM)
+    }
+
+    pub fn bell(second: i64) -> OnDrum {
+        OnDrum::new(second, BELL_DRUM)
+    }
+
+    // A drum that no tower has.
+    pub fn no_drum(second: i64) -> OnDrum {
+        OnDrum::new(second, DRUM_HIGH + 1)
+    }
+
+    fn new(second: i64, drum: i64) -> OnDrum {
+        OnDrum {
+            second: Second(second),
+            drum: Drum(drum),
+        }
+    }
 }
 
-pub fn hour(second: i64) -> OnDrum {
-    on_drum(second, Drum(HOUR_DRUM))
+// So many strokes: `HH:MM:SS, 4 strokes on the quarter drum`.
+#[derive(Drop)]
+pub struct Strokes {
+    pub due: OnDrum,
+    pub count: u64,
 }
 
-pub fn bell(second: i64) -> OnDrum {
-    on_drum(second, Drum(BELL_DRUM))
+impl Display for Strokes {
+    fn fmt<W: fmt::Write>(&self, f: &mut Formatter<W>) -> fmt::Result {
+        let time = TimeOfDay(self.due.second);
+        let drum = DrumName(self.due.drum);
+        write!(f, "{time}, {} on {drum}", Counted(self.count, "stroke"))
+    }
 }
 
-// A drum that no tower has.
-pub fn no_drum(second: i64) -> OnDrum {
-    on_drum(second, Drum(DRUM_HIGH + 1))
-}
+// A strike: when it is due, and on which drum, read back from its key, and its strokes.
+#[derive(Drop)]
+pub struct Strike(pub Entry);
 
-fn on_drum(second: i64, drum: Drum) -> OnDrum {
-    OnDrum {
-        second: Second(second),
-        drum,
+impl Display for Strike {
+    fn fmt<W: fmt::Write>(&self, f: &mut Formatter<W>) -> fmt::Result {
+        let Ok((time, drum)) = due::time_of(self.0.key, Offset(OFFSET)) else {
+            return write!(f, "{}", Refused(Refusal::BadTime));
+        };
+        let due = OnDrum {
+            second: time.second,
+            drum,
+        };
+        let strokes = Strokes {
+            due,
+            count: self.0.value,
+        };
+        if time.day.0 == DAY {
+            return write!(f, "{strokes}");
+        }
+        write!(f, "{strokes}, on another day")
     }
 }
 
 // So many seconds into a day, as HH:MM:SS.
-fn seconds(second: Second) {
-    let n = signs::size(second.0);
-    two_digits(n / 3_600);
-    say::text(b":");
-    two_digits(n / 60 % 60);
-    say::text(b":");
-    two_digits(n % 60);
-}
+#[derive(Drop)]
+struct TimeOfDay(Second);
 
-fn two_digits(n: u64) {
-    if n < 10 {
-        say::text(b"0");
-    }
-    say::number(n);
-}
-
-fn drum_name(drum: Drum) {
-    if drum.0 == QUARTER_DRUM {
-        say::text(b"the quarter drum");
-    } else if drum.0 == HOUR_DRUM {
-        say::text(b"the hour drum");
-    } else if drum.0 == BELL_DRUM {
-        say::text(b"the bell drum");
-    } else {
-        say::text(b"drum ");
-        say::signed(drum.0);
+impl Display for TimeOfDay {
+    fn fmt<W: fmt::Write>(&self, f: &mut Formatter<W>) -> fmt::Result {
+        let n = self.0.0.unsigned_abs();
+        write!(f, "{:02}:{:02}:{:02}", n / 3_600, n / 60 % 60, n % 60)
     }
 }
 
-// When strokes are due, how many, and on which drum.
-pub fn strokes(at: OnDrum, n: u64) {
-    seconds(at.second);
-    say::text(b", ");
-    say::counted(n, b"stroke");
-    say::text(b" on ");
-    drum_name(at.drum);
-}
+#[derive(Drop)]
+struct DrumName(Drum);
 
-// A strike to the end of the line: when it is due, and on which drum, read back from its key, and its strokes.
-pub fn strike(e: Entry) {
-    let answer = due::time_of(e.key, Offset(OFFSET));
-    match answer {
-        Ok((t, drum)) => due_at(t, drum, e.value),
-        Err(BadTime) => say::refused(Refusal::BadTime),
+impl Display for DrumName {
+    fn fmt<W: fmt::Write>(&self, f: &mut Formatter<W>) -> fmt::Result {
+        match self.0.0 {
+            QUARTER_DRUM => write!(f, "the quarter drum"),
+            HOUR_DRUM => write!(f, "the hour drum"),
+            BELL_DRUM => write!(f, "the bell drum"),
+            other => write!(f, "drum {other}"),
+        }
     }
-}
-
-fn due_at(t: Time, drum: Drum, n: u64) {
-    let second = t.second;
-    strokes(OnDrum { second, drum }, n);
-    if t.day.0 != DAY {
-        say::text(b", on another day");
-    }
-    say::text(b"\n");
 }

@@ -1,10 +1,12 @@
 // Laying out and planning: each call is told in one line, what was asked for and what the queue answered.
-use crate::clock;
-use crate::clock::OnDrum;
+use crate::clock::{DAY, OFFSET, OnDrum, Strokes};
 use due::{BadTime, Day, Offset, Time};
 use handle::{Handle, Inserted, Key, LaidOut, Refusal, Side};
-use output::say;
+use output::phrases::{Counted, Refused};
+use output::{say, say_line};
 use queue::placing;
+use std::fmt;
+use std::fmt::Display;
 
 // How a strike is placed: by its time, as the only one, or just before another.
 #[derive(Clone, Copy)]
@@ -14,80 +16,72 @@ pub enum Way {
     Before(Handle),
 }
 
+impl Way {
+    fn place(self, s: &mut [u64], key: Key, strokes: u64) -> Inserted {
+        match self {
+            Way::ByTime => placing::insert(s, key, strokes),
+            Way::Alone => placing::insert_empty(s, key, strokes),
+            Way::Before(h) => placing::insert_manual(s, h, Side::Less, key, strokes),
+        }
+    }
+}
+
+// What is said of the way behind when and what is planned: nothing, where it is the usual one.
+impl Display for Way {
+    fn fmt<W: fmt::Write>(&self, f: &mut fmt::Formatter<W>) -> fmt::Result {
+        match self {
+            Way::ByTime => Ok(()),
+            Way::Alone => write!(f, ", as the only strike"),
+            Way::Before(_) => write!(f, ", just before a given one"),
+        }
+    }
+}
+
 // Lays the store out.
 pub fn lay(s: &mut [u64], slots: u64, top: u64) {
-    say::text(b"  lay out ");
-    say::counted(slots, b"slot");
-    say::text(b" of ");
-    say::counted(top, b"generation");
-    say::text(b" in ");
-    say::counted(s.len() as u64, b"number");
-    say::text(b": ");
-    let answer = placing::lay_out(s, slots, top);
-    match answer {
-        LaidOut::Done => say::text(b"done\n"),
-        LaidOut::Refused(r) => say::refused(r),
+    let asked = Counted(slots, "slot");
+    let lives = Counted(top, "generation");
+    let lent = Counted(s.len() as u64, "number");
+    say!("  lay out {asked} of {lives} in {lent}: ");
+    match placing::lay_out(s, slots, top) {
+        LaidOut::Done => say_line!("done"),
+        LaidOut::Refused(r) => say_line!("{}", Refused(r)),
     }
 }
 
 // Plans a strike by its time.
-pub fn plan(s: &mut [u64], at: OnDrum, strokes: u64) -> Handle {
-    plan_so(s, Way::ByTime, at, strokes)
+pub fn plan(s: &mut [u64], due: OnDrum, count: u64) -> Handle {
+    plan_so(s, Way::ByTime, due, count)
 }
 
 // Plans a strike. Answers its handle, or one that names no strike where the queue refused.
-pub fn plan_so(s: &mut [u64], way: Way, at: OnDrum, strokes: u64) -> Handle {
-    asked(way, at, strokes);
-    match key_of(at) {
-        Ok(k) => told(place(s, way, k, strokes)),
-        Err(BadTime) => told(Inserted::Refused(Refusal::BadTime)),
+pub fn plan_so(s: &mut [u64], way: Way, due: OnDrum, count: u64) -> Handle {
+    say!("  plan {}{way}: ", Strokes { due, count });
+    let answer = match key_of(due) {
+        Ok(key) => way.place(s, key, count),
+        Err(BadTime) => Inserted::Refused(Refusal::BadTime),
+    };
+    match answer {
+        Inserted::New(h) => {
+            say_line!("planned");
+            h
+        }
+        Inserted::Replacing(h, old) => {
+            say_line!("planned already, replaces {}", Counted(old, "stroke"));
+            h
+        }
+        Inserted::Refused(r) => {
+            say_line!("{}", Refused(r));
+            Handle::none()
+        }
     }
 }
 
 // The key of a time of this evening's day.
-fn key_of(at: OnDrum) -> Result<Key, BadTime> {
-    let second = at.second;
+fn key_of(due: OnDrum) -> Result<Key, BadTime> {
     let time = Time {
-        day: Day(clock::DAY),
-        second,
+        day: Day(DAY),
+        second: due.second,
     };
-    due::key_of(time, Offset(clock::OFFSET), at.drum)
-}
-
-fn asked(way: Way, at: OnDrum, strokes: u64) {
-    say::text(b"  plan ");
-    clock::strokes(at, strokes);
-    match way {
-        Way::ByTime => {}
-        Way::Alone => say::text(b", as the only strike"),
-        Way::Before(_) => say::text(b", just before a given one"),
-    }
-    say::text(b": ");
-}
-
-fn place(s: &mut [u64], way: Way, key: Key, strokes: u64) -> Inserted {
-    match way {
-        Way::ByTime => placing::insert(s, key, strokes),
-        Way::Alone => placing::insert_empty(s, key, strokes),
-        Way::Before(h) => placing::insert_manual(s, h, Side::Less, key, strokes),
-    }
-}
-
-fn told(answer: Inserted) -> Handle {
-    match answer {
-        Inserted::New(h) => {
-            say::text(b"planned\n");
-            h
-        }
-        Inserted::Replacing(h, old) => {
-            say::text(b"planned already, replaces ");
-            say::counted(old, b"stroke");
-            say::text(b"\n");
-            h
-        }
-        Inserted::Refused(r) => {
-            say::refused(r);
-            Handle::none()
-        }
-    }
+    due::key_of(time, Offset(OFFSET), due.drum)
 }

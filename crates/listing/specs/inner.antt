@@ -1,2 +1,0 @@
--- Models, and what serves proofs alone: nothing in this folder need be checked by a reader (docs/TRUST.md).
-pub mod Walking

@@ -1,4 +1,0 @@
-use Rattle.replay.proofs.dumping.dump_entries.Given as goal
-
-abbrev pub decreases-loop-h : goal.decreases-loop-h
-decreases-loop-h l = l.w.left
