@@ -1,5 +1,6 @@
-// What a command is answered with, as plain data, and how it is written: `{}` gives the whole line, its end too.
-use handle::{Entry, Refusal, Side};
+// What a command is answered with where the queue does not refuse it, as plain data, and how it is written: `{}` gives the whole
+// line, its end too.
+use handle::{Entry, Side};
 use std::fmt;
 use std::fmt::Display;
 
@@ -24,7 +25,6 @@ pub enum Answer {
     End,
     Sound,
     Unsound,
-    Refused(Refusal),
 }
 
 impl Display for Answer {
@@ -50,7 +50,6 @@ impl Display for Answer {
             Answer::End => writeln!(f, "end"),
             Answer::Sound => writeln!(f, "sound"),
             Answer::Unsound => writeln!(f, "unsound"),
-            Answer::Refused(r) => writeln!(f, "err {}", r.number()),
         }
     }
 }

@@ -5,7 +5,7 @@
 mod slots;
 
 use arena::words::{FIELDS, STORE};
-use handle::{Inserted, Key, LIMIT, LaidOut};
+use handle::{Inserted, Key, LIMIT};
 use output::phrases::Refused;
 use output::{say, say_line};
 use queue::placing;
@@ -16,8 +16,8 @@ const WIDE: usize = STORE + FIELDS as usize;
 // Lays the store out, and says to the end of the line how that went: `done`, or the refusal.
 fn tell_laid(s: &mut [u64], capacity: u64, top: u64, done: &str) {
     match placing::lay_out(s, capacity, top) {
-        LaidOut::Done => say_line!("{done}"),
-        LaidOut::Refused(r) => say_line!("{}", Refused(r)),
+        Ok(()) => say_line!("{done}"),
+        Err(r) => say_line!("{}", Refused(r)),
     }
 }
 
@@ -28,7 +28,7 @@ fn lay(s: &mut [u64], capacity: u64, top: u64) {
 
 // A strike that must be new.
 fn strike(s: &mut [u64], k: i64, value: u64) {
-    let Inserted::New(_) = placing::insert(s, Key(k), value) else {
+    let Ok(Inserted::New(_)) = placing::insert(s, Key(k), value) else {
         say_line!("not new");
         return;
     };

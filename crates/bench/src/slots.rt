@@ -1,10 +1,9 @@
 // Lays out stores of several sizes, takes and frees slots to exhaustion and to retirement, and writes what it saw.
 use crate::tell_laid;
-use arena::header::Header;
-use arena::slots::{Freed, Taken};
+use arena::slots::Freed;
 use arena::words::STORE;
 use arena::{header, slots};
-use handle::{LIMIT, TOP_LIMIT};
+use handle::{Handle, LIMIT, Refusal, TOP_LIMIT};
 use output::{say, say_line};
 
 fn lay(s: &mut [u64], capacity: u64, top: u64) {
@@ -16,26 +15,24 @@ fn lay(s: &mut [u64], capacity: u64, top: u64) {
 }
 
 // Takes a slot from a store whose header passes.
-fn take(s: &mut [u64]) -> Taken {
-    match header::test(s) {
-        Header::Passes(cap) => slots::take(s, cap),
-        Header::Fails => Taken::NotSound,
-    }
+fn take(s: &mut [u64]) -> Result<Handle, Refusal> {
+    let cap = header::test(s)?;
+    slots::take(s, cap)
 }
 
 // Takes a slot and says which.
 fn take_one(s: &mut [u64]) {
     match take(s) {
-        Taken::At(h) => say_line!("take: slot {} generation {}", h.slot.0, h.generation.0),
-        Taken::Full => say_line!("take: none free"),
-        Taken::NotSound => say_line!("take: not sound"),
+        Ok(h) => say_line!("take: slot {} generation {}", h.slot.0, h.generation.0),
+        Err(Refusal::NotWithinCapacity) => say_line!("take: none free"),
+        Err(_) => say_line!("take: not sound"),
     }
 }
 
 // Frees a slot and says what became of it.
 fn free_one(s: &mut [u64], i: u64) {
     say!("free {i}: ");
-    let Header::Passes(cap) = header::test(s) else {
+    let Ok(cap) = header::test(s) else {
         say_line!("not sound");
         return;
     };
@@ -44,16 +41,16 @@ fn free_one(s: &mut [u64], i: u64) {
         return;
     }
     match slots::free(s, cap, i) {
-        Freed::Again => say_line!("free again"),
-        Freed::GenerationOverflow => say_line!("GenerationOverflow, retired"),
-        Freed::NotSound => say_line!("not sound"),
+        Ok(Freed::Again) => say_line!("free again"),
+        Ok(Freed::GenerationOverflow) => say_line!("GenerationOverflow, retired"),
+        Err(_) => say_line!("not sound"),
     }
 }
 
 // Takes slots until none is free, at most `most`, and tells how many.
 fn exhaust(s: &mut [u64], most: u64) -> u64 {
     for taken in 0..most {
-        let Taken::At(_) = take(s) else {
+        let Ok(_) = take(s) else {
             return taken;
         };
     }

@@ -7,10 +7,9 @@ pub mod walking;
 ghost use Rattle.std.specs.Prelude.{◌<◌};
 ghost use Rattle.arena.specs.Words.{Room};
 
-use arena::header::Header;
 use arena::words::{HEIGHT, RANK};
 use arena::{header, words};
-use handle::{Handle, Reading, Refusal};
+use handle::{Handle, Refusal};
 use output::phrases::Refused;
 use output::{say, say_line};
 use queue::looking;
@@ -36,10 +35,8 @@ pub struct Listing<'a> {
 
 impl<'a> Listing<'a> {
     pub fn of(store: &'a [u64]) -> Result<Listing<'a>, Refusal> {
-        match header::test(store) {
-            Header::Passes(capacity) => Ok(Listing { store, capacity }),
-            Header::Fails => Err(Refusal::NotSound),
-        }
+        let capacity = header::test(store)?;
+        Ok(Listing { store, capacity })
     }
 
     // The handles of the entries in order. No chain has more entries than slots.
@@ -55,8 +52,8 @@ impl<'a> Listing<'a> {
     // The key and the value of an entry, or the number of the refusal.
     pub fn key_and_value<W: fmt::Write>(&self, h: Handle, f: &mut Formatter<W>) -> fmt::Result {
         match looking::read(self.store, h) {
-            Reading::Entry(e) => write!(f, "{e}"),
-            Reading::Refused(r) => write!(f, "{}", r.number()),
+            Ok(e) => write!(f, "{e}"),
+            Err(r) => write!(f, "{}", r.number()),
         }
     }
 

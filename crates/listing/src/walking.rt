@@ -2,15 +2,15 @@
 ghost use Rattle.std.specs.Prelude.{◌≡◌};
 ghost use Rattle.std.specs.Iterator.{at_most};
 
-use handle::Handle;
-use queue::cursor::{Cursor, Moved};
+use handle::{Handle, Refusal};
+use queue::cursor::Cursor;
 
 // Where the cursor has come to, and how many entries may still be handed out. It is over at the chain's end, at a refusal, or
 // when none may.
 #[derive(Drop)]
 pub struct Walk<'a> {
     store: &'a [u64],
-    moved: Moved,
+    at: Option<Cursor>,
     pub left: u64,
 }
 
@@ -20,10 +20,15 @@ impl<'a> Walk<'a> {
     {
         Walk {
             store,
-            moved: Cursor::first(store),
+            at: reached(Cursor::first(store)),
             left: most,
         }
     }
+}
+
+// Where a step has come to: none at the chain's end, and at a refusal.
+fn reached(moved: Result<Option<Cursor>, Refusal>) -> Option<Cursor> {
+    moved.unwrap_or(None)
 }
 
 impl<'a> Iterator for Walk<'a> {
@@ -35,10 +40,8 @@ impl<'a> Iterator for Walk<'a> {
         if self.left == 0 {
             return None;
         }
-        let Moved::At(cursor) = self.moved else {
-            return None;
-        };
-        self.moved = cursor.forward(self.store);
+        let cursor = self.at?;
+        self.at = reached(cursor.forward(self.store));
         self.left -= 1;
         Some(cursor.handle)
     }

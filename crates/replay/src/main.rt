@@ -21,9 +21,9 @@ const LONGEST: usize = 128;
 // Carries a command out and writes its answer.
 fn respond(c: Command, served: &mut Served, out: &mut Out) {
     let answer = match c {
-        Command::Nothing => Answer::Nothing,
-        Command::Bad => Answer::BadLine,
-        Command::Unknown => Answer::Unknown,
+        Command::Nothing => Ok(Answer::Nothing),
+        Command::Bad => Ok(Answer::BadLine),
+        Command::Unknown => Ok(Answer::Unknown),
         Command::New(capacity, top) => served.lay_out(capacity, top),
         Command::Insert(place, key, value) => served.insert(place, key, value),
         Command::Ahead(place, key) => served.look_ahead(place, key),
@@ -36,16 +36,16 @@ fn respond(c: Command, served: &mut Served, out: &mut Out) {
         Command::Last => served.last(),
         Command::List => return show(Listing::of(&served.store), out),
         Command::Dump => return show(Dump::of(&served.store, &served.table), out),
-        Command::Check => served.check(),
+        Command::Check => Ok(served.check()),
     };
-    write!(out, "{answer}");
+    show(answer, out);
 }
 
-// Writes what takes many lines. Where the header fails, nothing is written but the refusal.
+// Writes an answer, of one line or of many; or the refusal alone.
 fn show<D: Display + Drop>(shown: Result<D, Refusal>, out: &mut Out) {
     match shown {
-        Ok(lines) => write!(out, "{lines}"),
-        Err(r) => write!(out, "{}", Answer::Refused(r)),
+        Ok(answer) => write!(out, "{answer}"),
+        Err(r) => writeln!(out, "err {}", r.number()),
     }
 }
 

@@ -6,7 +6,7 @@ mod looking;
 mod placing;
 
 use arena::words::STORE;
-use handle::{Handle, Slot};
+use handle::Handle;
 use script::table::Table;
 
 // The store, and the table of the numbers of the insertions into it. It is large: make it once, in `main`.
@@ -29,7 +29,7 @@ impl Served {
         self.table.handle_of(n)
     }
 
-    fn number_of(&self, slot: Slot) -> u64 {
-        self.table.number_of(slot.0)
+    fn number_of(&self, h: Handle) -> u64 {
+        self.table.number_of(h.slot.0)
     }
 }

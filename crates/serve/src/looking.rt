@@ -1,23 +1,22 @@
 // The commands that look: the look-ahead, `get`, `find`, steps along the chain by the cursor, and `check`.
 use crate::Served;
 use answers::answer::Answer;
-use handle::{Ahead, Key, Reading, Side};
-use queue::cursor::{Cursor, Moved};
+use handle::{Ahead, Key, Refusal, Side};
+use queue::cursor::Cursor;
 use queue::looking::Searched;
 use queue::{looking, placing};
 use script::command::Place;
 
 impl Served {
     // What an insertion would answer, without the number of a new entry and without the old value.
-    pub fn look_ahead(&self, place: Place, key: Key) -> Answer {
-        match self.ahead_at(place, key) {
-            Ahead::New(_) => Answer::WouldBeNew,
-            Ahead::Replacing(h) => Answer::WouldReplace(self.number_of(h.slot)),
-            Ahead::Refused(r) => Answer::Refused(r),
+    pub fn look_ahead(&self, place: Place, key: Key) -> Result<Answer, Refusal> {
+        match self.ahead_at(place, key)? {
+            Ahead::New(_) => Ok(Answer::WouldBeNew),
+            Ahead::Replacing(h) => Ok(Answer::WouldReplace(self.number_of(h))),
         }
     }
 
-    fn ahead_at(&self, place: Place, key: Key) -> Ahead {
+    fn ahead_at(&self, place: Place, key: Key) -> Result<Ahead, Refusal> {
         match place {
             Place::Normal => placing::look_ahead(&self.store, key),
             Place::Empty => placing::look_ahead_empty(&self.store),
@@ -27,51 +26,48 @@ impl Served {
         }
     }
 
-    pub fn get(&self, n: u64) -> Answer {
-        match looking::read(&self.store, self.handle_of(n)) {
-            Reading::Entry(e) => Answer::Got(e),
-            Reading::Refused(r) => Answer::Refused(r),
-        }
+    pub fn get(&self, n: u64) -> Result<Answer, Refusal> {
+        let entry = looking::read(&self.store, self.handle_of(n))?;
+        Ok(Answer::Got(entry))
     }
 
-    pub fn find(&self, key: Key) -> Answer {
-        match looking::search(&self.store, key) {
-            Searched::Equal(h, count) => Answer::Found(Side::Equal, self.number_of(h.slot), count),
-            Searched::Beside(h, side, count) => Answer::Found(side, self.number_of(h.slot), count),
-            Searched::Empty(_) => Answer::Empty,
-            Searched::Refused(r) => Answer::Refused(r),
+    pub fn find(&self, key: Key) -> Result<Answer, Refusal> {
+        match looking::search(&self.store, key)? {
+            Searched::Equal(h, count) => Ok(Answer::Found(Side::Equal, self.number_of(h), count)),
+            Searched::Beside(h, side, count) => Ok(Answer::Found(side, self.number_of(h), count)),
+            Searched::Empty(_) => Ok(Answer::Empty),
         }
     }
 
     // Where a cursor has come to.
-    fn moved(&self, m: Moved) -> Answer {
-        match m {
-            Moved::At(c) => Answer::At(self.number_of(c.handle.slot)),
-            Moved::End => Answer::End,
-            Moved::Refused(r) => Answer::Refused(r),
+    fn moved(&self, to: Option<Cursor>) -> Answer {
+        match to {
+            Some(cursor) => Answer::At(self.number_of(cursor.handle)),
+            None => Answer::End,
         }
     }
 
-    pub fn first(&self) -> Answer {
-        self.moved(Cursor::first(&self.store))
-    }
-
-    pub fn last(&self) -> Answer {
-        self.moved(Cursor::last(&self.store))
-    }
-
-    pub fn next(&self, n: u64) -> Answer {
-        match Cursor::at(&self.store, self.handle_of(n)) {
-            Moved::At(c) => self.moved(c.forward(&self.store)),
-            nowhere => self.moved(nowhere),
+    // A cursor at the entry that the insertion n gave.
+    fn cursor_of(&self, n: u64) -> Cursor {
+        Cursor {
+            handle: self.handle_of(n),
         }
     }
 
-    pub fn prev(&self, n: u64) -> Answer {
-        match Cursor::at(&self.store, self.handle_of(n)) {
-            Moved::At(c) => self.moved(c.back(&self.store)),
-            nowhere => self.moved(nowhere),
-        }
+    pub fn first(&self) -> Result<Answer, Refusal> {
+        Ok(self.moved(Cursor::first(&self.store)?))
+    }
+
+    pub fn last(&self) -> Result<Answer, Refusal> {
+        Ok(self.moved(Cursor::last(&self.store)?))
+    }
+
+    pub fn next(&self, n: u64) -> Result<Answer, Refusal> {
+        Ok(self.moved(self.cursor_of(n).forward(&self.store)?))
+    }
+
+    pub fn prev(&self, n: u64) -> Result<Answer, Refusal> {
+        Ok(self.moved(self.cursor_of(n).back(&self.store)?))
     }
 
     // Whether the store is sound, whatever it holds.

@@ -1,36 +1,31 @@
 // The commands that change the queue: `new`, the three insertions, `rem`.
 use crate::Served;
 use answers::answer::Answer;
-use handle::{Inserted, Key, LaidOut, Removed};
+use handle::{Inserted, Key, Refusal, Removed};
 use queue::{placing, taking};
 use script::command::Place;
 use script::table::NUMBERS;
 
 impl Served {
     // A refused `new` leaves the earlier queue and its numbers as they were.
-    pub fn lay_out(&mut self, capacity: u64, top: u64) -> Answer {
-        match placing::lay_out(&mut self.store, capacity, top) {
-            LaidOut::Done => {
-                self.table.clear();
-                Answer::Done
-            }
-            LaidOut::Refused(r) => Answer::Refused(r),
-        }
+    pub fn lay_out(&mut self, capacity: u64, top: u64) -> Result<Answer, Refusal> {
+        placing::lay_out(&mut self.store, capacity, top)?;
+        self.table.clear();
+        Ok(Answer::Done)
     }
 
     // An insertion, unless every number has been given: then it is not tried.
-    pub fn insert(&mut self, place: Place, key: Key, value: u64) -> Answer {
+    pub fn insert(&mut self, place: Place, key: Key, value: u64) -> Result<Answer, Refusal> {
         if NUMBERS <= self.table.count() {
-            return Answer::Full;
+            return Ok(Answer::Full);
         }
-        match self.insert_at(place, key, value) {
-            Inserted::New(h) => Answer::New(self.table.give(h)),
-            Inserted::Replacing(h, old) => Answer::Replaced(self.number_of(h.slot), old),
-            Inserted::Refused(r) => Answer::Refused(r),
+        match self.insert_at(place, key, value)? {
+            Inserted::New(h) => Ok(Answer::New(self.table.give(h))),
+            Inserted::Replacing(h, old) => Ok(Answer::Replaced(self.number_of(h), old)),
         }
     }
 
-    fn insert_at(&mut self, place: Place, key: Key, value: u64) -> Inserted {
+    fn insert_at(&mut self, place: Place, key: Key, value: u64) -> Result<Inserted, Refusal> {
         match place {
             Place::Normal => placing::insert(&mut self.store, key, value),
             Place::Empty => placing::insert_empty(&mut self.store, key, value),
@@ -41,12 +36,11 @@ impl Served {
         }
     }
 
-    pub fn remove(&mut self, n: u64) -> Answer {
+    pub fn remove(&mut self, n: u64) -> Result<Answer, Refusal> {
         let h = self.handle_of(n);
-        match taking::remove(&mut self.store, h) {
-            Removed::Entry(e) => Answer::Removed(n, e),
-            Removed::GenerationOverflow(e) => Answer::RemovedForGood(n, e),
-            Removed::Refused(r) => Answer::Refused(r),
+        match taking::remove(&mut self.store, h)? {
+            Removed::Entry(e) => Ok(Answer::Removed(n, e)),
+            Removed::GenerationOverflow(e) => Ok(Answer::RemovedForGood(n, e)),
         }
     }
 }

@@ -1,5 +1,4 @@
 // The check of a store, and a store that it must find broken.
-use arena::header::Header;
 use arena::words::NEXT;
 use arena::{header, words};
 use handle::Handle;
@@ -17,7 +16,7 @@ pub fn check(s: &[u64]) {
 
 // The strike that h names loses its link to the next one.
 pub fn lose_link(s: &mut [u64], h: Handle) {
-    let Header::Passes(cap) = header::test(s) else {
+    let Ok(cap) = header::test(s) else {
         return;
     };
     let i = h.slot.0;

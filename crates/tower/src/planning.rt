@@ -1,7 +1,7 @@
 // Laying out and planning: each call is told in one line, what was asked for and what the queue answered.
 use crate::clock::{DAY, OFFSET, OnDrum, Strokes};
 use due::{BadTime, Day, Offset, Time};
-use handle::{Handle, Inserted, Key, LaidOut, Refusal, Side};
+use handle::{Handle, Inserted, Key, Refusal, Side};
 use output::phrases::{Counted, Refused};
 use output::{say, say_line};
 use queue::placing;
@@ -17,7 +17,7 @@ pub enum Way {
 }
 
 impl Way {
-    fn place(self, s: &mut [u64], key: Key, strokes: u64) -> Inserted {
+    fn place(self, s: &mut [u64], key: Key, strokes: u64) -> Result<Inserted, Refusal> {
         match self {
             Way::ByTime => placing::insert(s, key, strokes),
             Way::Alone => placing::insert_empty(s, key, strokes),
@@ -44,8 +44,8 @@ pub fn lay(s: &mut [u64], slots: u64, top: u64) {
     let lent = Counted(s.len() as u64, "number");
     say!("  lay out {asked} of {lives} in {lent}: ");
     match placing::lay_out(s, slots, top) {
-        LaidOut::Done => say_line!("done"),
-        LaidOut::Refused(r) => say_line!("{}", Refused(r)),
+        Ok(()) => say_line!("done"),
+        Err(r) => say_line!("{}", Refused(r)),
     }
 }
 
@@ -57,24 +57,25 @@ pub fn plan(s: &mut [u64], due: OnDrum, count: u64) -> Handle {
 // Plans a strike. Answers its handle, or one that names no strike where the queue refused.
 pub fn plan_so(s: &mut [u64], way: Way, due: OnDrum, count: u64) -> Handle {
     say!("  plan {}{way}: ", Strokes { due, count });
-    let answer = match key_of(due) {
-        Ok(key) => way.place(s, key, count),
-        Err(BadTime) => Inserted::Refused(Refusal::BadTime),
-    };
-    match answer {
-        Inserted::New(h) => {
+    match placed(s, way, due, count) {
+        Ok(Inserted::New(h)) => {
             say_line!("planned");
             h
         }
-        Inserted::Replacing(h, old) => {
+        Ok(Inserted::Replacing(h, old)) => {
             say_line!("planned already, replaces {}", Counted(old, "stroke"));
             h
         }
-        Inserted::Refused(r) => {
+        Err(r) => {
             say_line!("{}", Refused(r));
             Handle::none()
         }
     }
+}
+
+fn placed(s: &mut [u64], way: Way, due: OnDrum, count: u64) -> Result<Inserted, Refusal> {
+    let key = key_of(due)?;
+    way.place(s, key, count)
 }
 
 // The key of a time of this evening's day.
