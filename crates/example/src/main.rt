@@ -57,7 +57,10 @@ fn run(rt: &impl Print) -> io::Result<()> {
     cancelled(rt, taking::remove(&mut s, h))?;
     match looking::search(&s, Key(66_600)) {
         Ok(Searched::Equal(h, _)) => println!(rt; "{} is the slot of the strike found", h.slot.0),
-        Ok(Searched::Beside(h, _, _)) => println!(rt; "{} is the slot beside; it is absent", h.slot.0),
+        Ok(Searched::Beside(h, _, _)) => println!(rt;
+            "{} is the slot beside; it is absent",
+            h.slot.0
+        ),
         Ok(Searched::Empty(n)) => println!(rt; "{n} strikes are planned"),
         Err(r) => println!(rt; "{} is why nothing was searched", r.number()),
     }
