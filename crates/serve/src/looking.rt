@@ -40,16 +40,8 @@ pub fn get(s: &[u64; STORE], t: &Table, n: u64) -> Answer {
 pub fn find(s: &[u64; STORE], t: &Table, key: Key) -> Answer {
     let answer = queue::looking::search(s, key);
     match answer {
-        Searched::Equal(h, count) => Answer::Found(
-            Side::Equal,
-            t.number_of(h.slot.0),
-            count,
-        ),
-        Searched::Beside(h, side, count) => Answer::Found(
-            side,
-            t.number_of(h.slot.0),
-            count,
-        ),
+        Searched::Equal(h, count) => Answer::Found(Side::Equal, t.number_of(h.slot.0), count),
+        Searched::Beside(h, side, count) => Answer::Found(side, t.number_of(h.slot.0), count),
         Searched::Empty(_) => Answer::Empty,
         Searched::Refused(r) => Answer::Refused(r),
     }

@@ -37,13 +37,7 @@ pub fn insertion(
     }
 }
 
-fn insert_at(
-    s: &mut [u64; STORE],
-    t: &Table,
-    place: Place,
-    key: Key,
-    value: u64,
-) -> Inserted {
+fn insert_at(s: &mut [u64; STORE], t: &Table, place: Place, key: Key, value: u64) -> Inserted {
     match place {
         Place::Normal => queue::placing::insert(s, key, value),
         Place::Empty => queue::placing::insert_empty(s, key, value),
