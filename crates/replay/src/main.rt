@@ -19,13 +19,7 @@ use script::table::Table;
 const LONGEST: usize = 128;
 
 // Carries a command out and writes its answer.
-fn respond(
-    c: Command,
-    s: &mut [u64; STORE],
-    t: &mut Table,
-    o: &mut [u8; ROOM],
-    at: &mut usize,
-) {
+fn respond(c: Command, s: &mut [u64; STORE], t: &mut Table, o: &mut [u8; ROOM], at: &mut usize) {
     match c {
         Command::List => {
             let is_passed = listing::list(s, o, at);
