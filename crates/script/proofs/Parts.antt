@@ -14,7 +14,9 @@ use Rattle.handle.specs.declared.Key.{Key}
 use Rattle.handle.specs.declared.Side.{Side}
 use Rattle.handle.specs.declared.Side.TheVariants.{Less, Equal, Greater}
 use Rattle.input.specs.inner.Numbers.{signed_of}
-use Rattle.script.specs.inner.Sides.{side_at, side_read}
+use Rattle.input.specs.inner.Fields.{part, next_field}
+use Rattle.input.specs.declared.fields.Span.{Span}
+use Rattle.script.specs.inner.Sides.{side_at, side_read, side_field}
 
 side_less : (z : ℤ) → SFits w64 z → of_z w64 z ≡ 18446744073709551615 → Some Less ≡ side_at (stored z)
 unfolding side_at stored
@@ -40,9 +42,9 @@ side_none (negsuc n) f a b d =
     rw (ne_eqb (2 ^ 63 - suc n) 9223372036854775807 (λ e. a (omega arith)), ne_eqb (2 ^ 63 - suc n) 9223372036854775808 (λ e. absurd (omega arith)), ne_eqb (2 ^ 63 - suc n) 9223372036854775809 (λ e. absurd (omega arith)))
 
 module _ (s : List ℕ) where
-  pub no_side : (r : Option Side) → r ≡ None → None ≡ signed_of s → r ≡ side_read s
+  pub no_side_so : (r : Option Side) → r ≡ None → None ≡ signed_of s → r ≡ side_read s
   unfolding side_read
-  no_side r e p = rw (e, ← p)
+  no_side_so r e p = rw (e, ← p)
 
   module _ (k : Key) (here : Some k ≡ signed_of s) (f : SFits w64 k.0) where
     pub is_less : of_z w64 k.0 ≡ 18446744073709551615 → Some Less ≡ side_read s
@@ -60,3 +62,15 @@ module _ (s : List ℕ) where
     pub is_none : (of_z w64 k.0 ≡ 18446744073709551615 → ⊥) → (of_z w64 k.0 ≡ 0 → ⊥) → (of_z w64 k.0 ≡ 1 → ⊥) → None ≡ side_read s
     unfolding side_read
     is_none a b d = rw (← here) (side_none k.0 f a b d)
+
+-- ---- a side field, found or missing
+
+module _ (s : List ℕ) (from : ℕ) (f : Option Span) (here : f ≡ next_field s from) where
+  pub no_side : f ≡ None → None ≡ side_field s from
+  unfolding side_field
+  no_side p = rw (← here, p)
+
+  pub side_is : (p : Span) → f ≡ Some p → (n : Option Side) (v : Side) → n ≡ side_read (part s p.start p.end) → n ≡ Some v →
+      Some (v, p.end) ≡ side_field s from
+  unfolding side_field
+  side_is p at n v q e = rw (← here, at, ← q, e)

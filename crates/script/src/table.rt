@@ -1,6 +1,6 @@
 // Which handle an insertion gave, by its number, and which insertion's entry lives in a slot now.
 // A table has fixed memory, and every call is safe on any numbers.
-ghost use Rattle.std.specs.Prelude.{◌≤◌};
+ghost use Rattle.std.specs.Prelude.{◌≡◌, ◌+◌, ◌<◌, ◌≤◌, Some, slice_get};
 
 use handle::{Handle, LIMIT};
 
@@ -21,7 +21,11 @@ pub struct Table {
 }
 
 impl Table {
-    pub fn new() -> Table {
+    ghost use Rattle.handle.specs.Numbers.{no_slot};
+
+    pub fn new() -> Table
+        ensures { result.count ≡ 0 }
+    {
         Table {
             count: 0,
             handles: [Handle::none(); HANDLES],
@@ -30,17 +34,25 @@ impl Table {
     }
 
     // No number has been given yet.
-    pub fn clear(&mut self) {
+    pub fn clear(&mut self)
+        ensures { self.new.count ≡ 0 }
+    {
         self.count = 0;
     }
 
     // How many numbers have been given.
-    pub fn count(&self) -> u64 {
+    pub fn count(&self) -> u64
+        ensures { result ≡ self.now.count }
+    {
         self.count
     }
 
-    // The next number goes to the entry that h names.
-    pub fn give(&mut self, h: Handle) -> u64 {
+    // The next number goes to the entry that h names, unless every number has been given.
+    pub fn give(&mut self, h: Handle) -> u64
+        ensures next { result ≡ self.old.count }
+        ensures given { self.old.count < 8192 → (self.new.count ≡ self.old.count + 1) × (slice_get self.new.handles result ≡ Some h) }
+        ensures newest { self.old.count < 8192 → h.slot.0 < 1024 → slice_get self.new.numbers h.slot.0 ≡ Some result }
+    {
         let n = self.count;
         if n < NUMBERS {
             self.handles[n as usize] = h;
@@ -54,7 +66,10 @@ impl Table {
     }
 
     // The handle that the insertion n gave; one that names no entry where there was no such insertion.
-    pub fn handle_of(&self, n: u64) -> Handle {
+    pub fn handle_of(&self, n: u64) -> Handle
+        ensures given { n < self.now.count → slice_get self.now.handles n ≡ Some result }
+        ensures unknown { self.now.count ≤ n → result.slot.0 ≡ no_slot }
+    {
         if n < self.count {
             self.handles[n as usize]
         } else {
@@ -63,7 +78,9 @@ impl Table {
     }
 
     // The number of the insertion that last took a slot.
-    pub fn number_of(&self, slot: u64) -> u64 {
+    pub fn number_of(&self, slot: u64) -> u64
+        ensures { slot < 1024 → slice_get self.now.numbers slot ≡ Some result }
+    {
         if slot < LIMIT {
             self.numbers[slot as usize]
         } else {

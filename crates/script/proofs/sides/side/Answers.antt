@@ -1,9 +1,9 @@
 use Rattle.std.proofs.Common.{rules}
-use Rattle.script.proofs.Parts.{no_side, is_less, is_equal, is_greater, is_none}
+use Rattle.script.proofs.Parts.{no_side_so, is_less, is_equal, is_greater, is_none}
 use Rattle.script.proofs.sides.side.Goals as goal
 
 pub returns-in_err-k : goal.returns-in_err-k
-returns-in_err-k c = search (rules, no_side)
+returns-in_err-k c = search (rules, no_side_so)
 
 pub returns-in-minus1 : goal.returns-in-minus1
 returns-in-minus1 c = is_less _ _ c.in_ok-k.ensures (search rules) (search rules)
