@@ -49,18 +49,6 @@ fn show<D: Display + Drop>(shown: Result<D, Refusal>, out: &mut Out) {
     }
 }
 
-// Serves what a call of the reader came to, and says whether more may follow.
-fn serve_line(got: Line<'_>, served: &mut Served, out: &mut Out) -> bool {
-    match got {
-        Line::Whole(text) => respond(command::read(text), served, out),
-        Line::TooLong => respond(Command::Bad, served, out),
-        Line::Begun => {}
-        Line::Failed => tell_failed(),
-        Line::End => return false,
-    }
-    true
-}
-
 fn tell_failed() {
     io::write_all(
         STANDARD_ERROR,
@@ -71,8 +59,12 @@ fn tell_failed() {
 // A proved loop has to end, and nothing says that the input does: so it has more turns than any run uses up.
 fn serve_all(reader: &mut Reader<'_>, served: &mut Served, out: &mut Out) {
     for _ in 0..u64::MAX {
-        if !serve_line(reader.next(), served, out) {
-            break;
+        match reader.next() {
+            Line::Whole(text) => respond(command::read(text), served, out),
+            Line::TooLong => respond(Command::Bad, served, out),
+            Line::Begun => {}
+            Line::Failed => tell_failed(),
+            Line::End => break,
         }
     }
 }
