@@ -3,8 +3,12 @@
 // From the Rust: fundamental/ptr.rs (Ptr, its index and its generation) and fundamental/errors.rs.
 #![tactic(auto)]
 
+pub mod hand;
+
 ghost use Rattle.std.specs.Prelude.{◌≡◌};
 ghost use Rattle.handle.specs.Numbers.{no_slot, first_generation, refusal_number};
+
+pub use hand::Hand;
 
 // The most slots that a store may have: `limit` of specs/Numbers.antt. Crate `arena` is proved to test this.
 pub const LIMIT: u64 = 1024;
