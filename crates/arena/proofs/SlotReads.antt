@@ -1,5 +1,5 @@
 -- The models of slots, entries and the header, with what the code has read handed in.
-use Prim.Native.Nat.{ℕ, ◌+◌, ◌-◌, ◌<◌, ◌≤◌}
+use Prim.Native.Nat.{ℕ, ◌+◌, ◌<◌, ◌≤◌}
 use mathlib.Core.Path.{◌≡◌, sym, ◌∙◌, ap}
 use mathlib.Core.Bool.{Bool, true, false}
 use mathlib.Core.List.{List}
@@ -9,7 +9,7 @@ use lib.ListN.{length}
 use borrow.Author.Tests.{lt-ltb, le-ltb, lt-leb, leb-false, ltb-false}
 use Rattle.handle.specs.declared.Generation.{Generation}
 use Rattle.handle.specs.declared.Handle.{Handle}
-use Rattle.handle.specs.declared.Refusal.TheVariants.{BadLayout, NotSound, NotWithinCapacity}
+use Rattle.handle.specs.declared.Refusal.TheVariants.{BadLayout, NotSound}
 use Rattle.arena.specs.Keys.{signed}
 use Rattle.handle.specs.Numbers.{limit, top_limit}
 use Rattle.handle.proofs.Limits.{limit-fits}
@@ -18,10 +18,10 @@ use Rattle.arena.specs.Header.{header_of, Passing}
 use Rattle.arena.specs.inner.Says.{Says}
 use Rattle.arena.specs.Laying.{GoodLayout}
 use Rattle.arena.specs.inner.Laying.{blank_of, good_layout, fresh_head, lay_slots, laid_words, lay_out_words}
-use Rattle.arena.specs.inner.Slots.{PeekedIn, handle_with, found_at, peek_from, peek_slot, popped, take_slot, pushed, free_with, free_slot}
+use Rattle.arena.specs.inner.Slots.{PeekedIn, handle_with, found_at, peek_from, peek_slot, pushed, free_with, free_slot}
 use Rattle.arena.specs.inner.Entries.{is_live, entry_of}
 use Rattle.handle.specs.declared.Entry.{Entry}
-use Rattle.arena.proofs.Paths.{no_refusal, no_refusals, wrote}
+use Rattle.arena.proofs.Paths.{no_refusal, no_refusals}
 use Rattle.arena.specs.declared.slots.Freed.{Freed}
 use Rattle.std.specs.Prelude.{Result, Ok, Err, ⊤}
 use Rattle.handle.specs.declared.Refusal.{Refusal}
