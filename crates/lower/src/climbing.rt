@@ -52,7 +52,7 @@ pub fn lower_one(s: &mut Store<'_>, p1: u64, rank: u64) -> Result<Climbed, Refus
 }
 
 // "both two below s0, lower n1 and s0 and climb"
-#[tactic(auto, unfolding(crate::specs::inner::Climb::lowered_both, arena::specs::inner::Budget::budget))]
+#[tactic(auto, using(arena::proofs::Budget::raising), unfolding(crate::specs::inner::Climb::lowered_both))]
 fn lower_both(s: &mut Store<'_>, p1: u64, s0: u64, rank0: u64) -> Result<Climbed, Refusal>
     requires p1_lt_cap { p1 < s.old.cap }
     requires s0_lt_cap { s0 < s.old.cap }

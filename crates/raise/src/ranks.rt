@@ -15,7 +15,7 @@ use handle::{Hand, Refusal};
 use tree::Climbed;
 
 // "raise n2 by one and climb": n2's rank becomes one more than n1's rank r1, and p3 above it is next.
-#[tactic(auto, unfolding(crate::specs::inner::Ranks::raised_up, crate::specs::inner::Ranks::above, arena::specs::inner::Budget::budget))]
+#[tactic(auto, using(arena::proofs::Budget::raising), unfolding(crate::specs::inner::Ranks::raised_up, crate::specs::inner::Ranks::above))]
 fn raise(s: &mut Store<'_>, p2: u64, p3: u64, r1: u64) -> Result<Climbed, Refusal>
     requires p2_lt_cap { p2 < s.old.cap }
     requires r1_lt_budget { r1 < budget }
