@@ -4,4 +4,5 @@ pub mod Only
 pub mod Laying
 pub mod Slots
 pub mod Entries
+pub mod Stored
 pub mod Says

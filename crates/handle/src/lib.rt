@@ -4,9 +4,12 @@
 #![tactic(auto)]
 
 mod showing;
+pub mod hand;
 
 ghost use Rattle.std.specs.Prelude.{◌≡◌};
 ghost use Rattle.handle.specs.Numbers.{no_slot, first_generation, refusal_number};
+
+pub use hand::Hand;
 
 // The most slots that a store may have: `limit` of specs/Numbers.antt. Crate `arena` is proved to test this.
 pub const LIMIT: u64 = 1024;
