@@ -1,17 +1,17 @@
 // The climb after a removal: from the parent n1 of the emptied place, ranks are lowered up the tree until they fit or a rotation mends them.
 // Each turn is a function of its own that tells the loop whether to go on; the loop has a budget that a sound store never meets.
 // From the Rust: the second loop of ord/remove.rs.
-ghost use Rattle.std.specs.Prelude.{◌≡◌, ◌<◌, ◌≤◌};
-ghost use Rattle.arena.specs.Words.{Room};
+ghost use Rattle.std.specs.Prelude.{◌≡◌, ◌<◌};
+ghost use Rattle.arena.specs.inner.Stored.{Keeps};
 ghost use Rattle.arena.specs.inner.Budget.{budget};
 ghost use Rattle.tree.specs.inner.Climb.{Standing};
 ghost use Rattle.lower.specs.inner.Climb.{go_up, lower_one, lowered_both, climb_past_with, climb_past, climb_at, climb_turn, lower_from};
 
 use crate::turns;
 use crate::turns::Turn;
-use arena::words;
+use arena::store::{Store, View};
 use arena::words::{BACK, BUDGET, LEFT, RANK, RIGHT};
-use handle::Refusal;
+use handle::{Hand, Refusal};
 use tree::Climbed;
 
 // Where a turn is taken: n1, its child n0 that lost a rank, its other child s0, and the ranks of n0 and n1.
@@ -25,53 +25,55 @@ pub struct Site {
 }
 
 // One up from p1, which lost a rank.
-fn go_up(s: &[u64], cap: u64, p1: u64) -> Result<Climbed, Refusal>
-    requires room { Room s.now cap }
-    requires p1_lt_cap { p1 < cap }
-    ensures value { result ≡ go_up s.now cap p1 }
-    ensures standing { Standing cap result }
+#[tactic(auto, unfolding(crate::specs::inner::Climb::go_up, crate::specs::inner::Climb::go_up_to))]
+fn go_up(s: View<'_>, p1: u64) -> Result<Climbed, Refusal>
+    requires p1_lt_cap { p1 < s.cap }
+    ensures value { result ≡ go_up s.entry.words.now s.entry.cap p1 }
+    ensures standing { Standing s.entry.cap result }
 {
-    let p2 = words::field(s, cap, p1, BACK);
-    if p2 < cap {
-        let d = tree::side_of(s, cap, p2, p1);
+    let p2 = s.field(p1, BACK);
+    if p2 < s.cap {
+        let d = tree::side_of(s, p2, p1);
         return Ok(Climbed::Up(p2, d));
     }
     Ok(Climbed::Done)
 }
 
 // n1 gets a lower rank, and the climb goes one up.
-pub fn lower_one(s: &mut [u64], cap: u64, p1: u64, rank: u64) -> Result<Climbed, Refusal>
-    requires room { Room s.old cap }
-    requires p1_lt_cap { p1 < cap }
-    ensures result_after { (s.new, result) ≡ lower_one s.old cap p1 rank }
-    ensures standing { Standing cap result }
+#[tactic(auto, unfolding(crate::specs::inner::Climb::lower_one, crate::specs::inner::Climb::upward))]
+pub fn lower_one(s: &mut Store<'_>, p1: u64, rank: u64) -> Result<Climbed, Refusal>
+    requires p1_lt_cap { p1 < s.old.cap }
+    ensures keeps { Keeps s.old s.new }
+    ensures result_after { (s.new.words.now, result) ≡ lower_one s.old.words.now s.old.cap p1 rank }
+    ensures standing { Standing s.old.cap result }
 {
-    words::put(s, cap, p1, RANK, rank);
-    go_up(s, cap, p1)
+    s.put(p1, RANK, rank);
+    go_up(s.view(), p1)
 }
 
 // "both two below s0, lower n1 and s0 and climb"
-fn lower_both(s: &mut [u64], cap: u64, p1: u64, s0: u64, rank0: u64) -> Result<Climbed, Refusal>
-    requires room { Room s.old cap }
-    requires p1_lt_cap { p1 < cap }
-    requires s0_lt_cap { s0 < cap }
+#[tactic(auto, unfolding(crate::specs::inner::Climb::lowered_both, arena::specs::inner::Budget::budget))]
+fn lower_both(s: &mut Store<'_>, p1: u64, s0: u64, rank0: u64) -> Result<Climbed, Refusal>
+    requires p1_lt_cap { p1 < s.old.cap }
+    requires s0_lt_cap { s0 < s.old.cap }
     requires rank0_lt_budget { rank0 < budget }
-    ensures result_after { (s.new, result) ≡ lowered_both s.old cap p1 s0 rank0 }
-    ensures standing { Standing cap result }
+    ensures keeps { Keeps s.old s.new }
+    ensures result_after { (s.new.words.now, result) ≡ lowered_both s.old.words.now s.old.cap p1 s0 rank0 }
+    ensures standing { Standing s.old.cap result }
 {
-    words::put(s, cap, s0, RANK, rank0 + 1);
-    lower_one(s, cap, p1, rank0 + 2)
+    s.put(s0, RANK, rank0 + 1);
+    lower_one(s, p1, rank0 + 2)
 }
 
 // A rotation, or n1 and s0 are lowered: by the ranks of a and b under s0, whose rank rs is one below n1's.
-fn climb_by(s: &mut [u64], cap: u64, d: u64, t: Turn, rank0: u64, rs: u64, rb: u64) -> Result<Climbed, Refusal>
-    requires room { Room s.old cap }
-    requires d_bound { d ≤ 1 }
-    requires n1_lt_cap { t.n1 < cap }
-    requires s0_lt_cap { t.s0 < cap }
+#[tactic(auto, unfolding(crate::specs::inner::Climb::climb_past_with, arena::specs::inner::Budget::budget))]
+fn climb_by(s: &mut Store<'_>, d: Hand, t: Turn, rank0: u64, rs: u64, rb: u64) -> Result<Climbed, Refusal>
+    requires n1_lt_cap { t.n1 < s.old.cap }
+    requires s0_lt_cap { t.s0 < s.old.cap }
     requires rank0_lt_budget { rank0 < budget }
-    ensures result_after { (s.new, result) ≡ climb_past_with s.old cap d t rank0 rs rb }
-    ensures standing { Standing cap result }
+    ensures keeps { Keeps s.old s.new }
+    ensures result_after { (s.new.words.now, result) ≡ climb_past_with s.old.words.now s.old.cap d t rank0 rs rb }
+    ensures standing { Standing s.old.cap result }
 {
     if BUDGET <= t.ra {
         return Err(Refusal::NotSound);
@@ -80,34 +82,34 @@ fn climb_by(s: &mut [u64], cap: u64, d: u64, t: Turn, rank0: u64, rs: u64, rb: u
         return Err(Refusal::NotSound);
     }
     if rb + 1 == rs {
-        turns::turn_once(s, cap, d, t);
+        turns::turn_once(s, d, t);
         return Ok(Climbed::Done);
     }
     if t.ra + 2 == rs {
-        return lower_both(s, cap, t.n1, t.s0, rank0);
+        return lower_both(s, t.n1, t.s0, rank0);
     }
-    if cap <= t.a {
+    if s.cap <= t.a {
         return Err(Refusal::NotSound);
     }
-    turns::turn_twice(s, cap, d, t);
+    turns::turn_twice(s, d, t);
     Ok(Climbed::Done)
 }
 
 // The turn where the sibling s0 has the rank rs, one below n1: its children a and b are read, with n2 above n1.
-fn climb_past(s: &mut [u64], cap: u64, d: u64, p: Site, rs: u64) -> Result<Climbed, Refusal>
-    requires room { Room s.old cap }
-    requires d_bound { d ≤ 1 }
-    requires n1_lt_cap { p.n1 < cap }
-    requires s0_lt_cap { p.s0 < cap }
+#[tactic(auto, unfolding(crate::specs::inner::Climb::climb_past))]
+fn climb_past(s: &mut Store<'_>, d: Hand, p: Site, rs: u64) -> Result<Climbed, Refusal>
+    requires n1_lt_cap { p.n1 < s.old.cap }
+    requires s0_lt_cap { p.s0 < s.old.cap }
     requires rank0_lt_budget { p.rank0 < budget }
-    ensures result_after { (s.new, result) ≡ climb_past s.old cap d p rs }
-    ensures standing { Standing cap result }
+    ensures keeps { Keeps s.old s.new }
+    ensures result_after { (s.new.words.now, result) ≡ climb_past s.old.words.now s.old.cap d p rs }
+    ensures standing { Standing s.old.cap result }
 {
-    let a = words::field(s, cap, p.s0, LEFT + d);
-    let b = words::field(s, cap, p.s0, RIGHT - d);
-    let ra = tree::rank_of(s, cap, a);
-    let rb = tree::rank_of(s, cap, b);
-    let n2 = words::field(s, cap, p.n1, BACK);
+    let a = s.field(p.s0, LEFT + d.number);
+    let b = s.field(p.s0, RIGHT - d.number);
+    let ra = tree::rank_of(s.view(), a);
+    let rb = tree::rank_of(s.view(), b);
+    let n2 = s.field(p.n1, BACK);
     let t = Turn {
         n0: p.n0,
         n1: p.n1,
@@ -118,48 +120,48 @@ fn climb_past(s: &mut [u64], cap: u64, d: u64, p: Site, rs: u64) -> Result<Climb
         ra,
         rank1: p.rank1,
     };
-    climb_by(s, cap, d, t, p.rank0, rs, rb)
+    climb_by(s, d, t, p.rank0, rs, rb)
 }
 
 // The turn where n1 is three above n0: by the rank of its sibling s0.
-fn climb_at(s: &mut [u64], cap: u64, d: u64, p: Site) -> Result<Climbed, Refusal>
-    requires room { Room s.old cap }
-    requires d_bound { d ≤ 1 }
-    requires n1_lt_cap { p.n1 < cap }
-    requires s0_lt_cap { p.s0 < cap }
+#[tactic(auto, unfolding(crate::specs::inner::Climb::climb_at, crate::specs::inner::Climb::climb_at_with, arena::specs::inner::Budget::budget))]
+fn climb_at(s: &mut Store<'_>, d: Hand, p: Site) -> Result<Climbed, Refusal>
+    requires n1_lt_cap { p.n1 < s.old.cap }
+    requires s0_lt_cap { p.s0 < s.old.cap }
     requires rank0_lt_budget { p.rank0 < budget }
-    ensures result_after { (s.new, result) ≡ climb_at s.old cap d p }
-    ensures standing { Standing cap result }
+    ensures keeps { Keeps s.old s.new }
+    ensures result_after { (s.new.words.now, result) ≡ climb_at s.old.words.now s.old.cap d p }
+    ensures standing { Standing s.old.cap result }
 {
-    let rs = words::field(s, cap, p.s0, RANK);
+    let rs = s.field(p.s0, RANK);
     if BUDGET <= rs {
         return Err(Refusal::NotSound);
     }
     if rs + 2 == p.rank1 {
-        return lower_one(s, cap, p.n1, rs + 1);
+        return lower_one(s, p.n1, rs + 1);
     }
-    climb_past(s, cap, d, p, rs)
+    climb_past(s, d, p, rs)
 }
 
 // One turn at n1, whose child n0 on the side d lost a rank.
-fn climb_turn(s: &mut [u64], cap: u64, p1: u64, d: u64) -> Result<Climbed, Refusal>
-    requires room { Room s.old cap }
-    requires p1_lt_cap { p1 < cap }
-    requires d_bound { d ≤ 1 }
-    ensures result_after { (s.new, result) ≡ climb_turn s.old cap p1 d }
-    ensures standing { Standing cap result }
+#[tactic(auto, unfolding(crate::specs::inner::Climb::climb_turn, crate::specs::inner::Climb::climb_turn_with, arena::specs::inner::Budget::budget))]
+fn climb_turn(s: &mut Store<'_>, p1: u64, d: Hand) -> Result<Climbed, Refusal>
+    requires p1_lt_cap { p1 < s.old.cap }
+    ensures keeps { Keeps s.old s.new }
+    ensures result_after { (s.new.words.now, result) ≡ climb_turn s.old.words.now s.old.cap p1 d }
+    ensures standing { Standing s.old.cap result }
 {
-    let p0 = words::field(s, cap, p1, LEFT + d);
-    let s0 = words::field(s, cap, p1, RIGHT - d);
-    let rank1 = words::field(s, cap, p1, RANK);
-    let rank0 = tree::rank_of(s, cap, p0);
+    let p0 = s.field(p1, LEFT + d.number);
+    let s0 = s.field(p1, RIGHT - d.number);
+    let rank1 = s.field(p1, RANK);
+    let rank0 = tree::rank_of(s.view(), p0);
     if BUDGET <= rank0 {
         return Err(Refusal::NotSound);
     }
     if rank1 <= rank0 + 2 {
         return Ok(Climbed::Done);
     }
-    if cap <= s0 {
+    if s.cap <= s0 {
         return Err(Refusal::NotSound);
     }
     let p = Site {
@@ -169,20 +171,20 @@ fn climb_turn(s: &mut [u64], cap: u64, p1: u64, d: u64) -> Result<Climbed, Refus
         rank0,
         rank1,
     };
-    climb_at(s, cap, d, p)
+    climb_at(s, d, p)
 }
 
 // The climb from a node whose child on that side lost a rank. It ends on every sound store; else it is refused.
-pub fn climb(s: &mut [u64], cap: u64, start: u64, side: u64) -> Result<(), Refusal>
-    requires room { Room s.old cap }
-    requires start_lt_cap { start < cap }
-    requires side_bound { side ≤ 1 }
-    ensures { (s.new, result) ≡ lower_from budget s.old cap start side }
+#[tactic(auto, using(tree::proofs::Climb::up_low, crate::proofs::ClimbLoop::again, crate::proofs::ClimbLoop::ended, crate::proofs::ClimbLoop::refused, crate::proofs::ClimbLoop::spent), unfolding(arena::specs::inner::Budget::budget))]
+pub fn climb(s: &mut Store<'_>, start: u64, side: Hand) -> Result<(), Refusal>
+    requires start_lt_cap { start < s.old.cap }
+    ensures keeps { Keeps s.old s.new }
+    ensures result_after { (s.new.words.now, result) ≡ lower_from budget s.old.words.now s.old.cap start side }
 {
     let mut p1 = start;
     let mut d = side;
     for _ in 0..BUDGET {
-        match climb_turn(s, cap, p1, d)? {
+        match climb_turn(s, p1, d)? {
             Climbed::Up(p2, d2) => {
                 p1 = p2;
                 d = d2;

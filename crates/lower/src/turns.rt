@@ -1,13 +1,14 @@
 // The two rotations of a removal, one piece of code over the side d: n0 stands on the side d of n1, the sibling s0 on the other.
 // The slots and ranks that the caller has read are handed in; a rotation writes the links and the ranks of the nodes that move.
 // From the Rust: the restructuring of ord/remove.rs.
-ghost use Rattle.std.specs.Prelude.{◌≡◌, ◌<◌, ◌≤◌};
-ghost use Rattle.arena.specs.Words.{Room};
+ghost use Rattle.std.specs.Prelude.{◌≡◌, ◌<◌};
+ghost use Rattle.arena.specs.inner.Stored.{Becomes};
 ghost use Rattle.arena.specs.inner.Budget.{budget};
 ghost use Rattle.lower.specs.inner.Rotations.{turn_once, turn_twice};
 
-use arena::words;
+use arena::store::Store;
 use arena::words::{LEFT, RIGHT};
+use handle::Hand;
 use tree::Node;
 
 // What a rotation is made of: slots, and two ranks.
@@ -28,15 +29,14 @@ pub struct Turn {
 }
 
 // "rotate s0 up to n1's old rank, and n1 to a's rank plus 1"
-pub fn turn_once(s: &mut [u64], cap: u64, d: u64, t: Turn)
-    requires room { Room s.old cap }
-    requires d_bound { d ≤ 1 }
-    requires n1_lt_cap { t.n1 < cap }
-    requires s0_lt_cap { t.s0 < cap }
+#[tactic(auto, unfolding(crate::specs::inner::Rotations::turn_once, arena::specs::inner::Budget::budget))]
+pub fn turn_once(s: &mut Store<'_>, d: Hand, t: Turn)
+    requires n1_lt_cap { t.n1 < s.old.cap }
+    requires s0_lt_cap { t.s0 < s.old.cap }
     requires ra_lt_budget { t.ra < budget }
-    ensures { s.new ≡ turn_once s.old cap d t }
+    ensures { Becomes s.old s.new (turn_once s.old.words.now s.old.cap d t) }
 {
-    tree::put_back(s, cap, t.a, t.n1);
+    tree::put_back(s, t.a, t.n1);
     let rank = t.ra + 1;
     let low = Node {
         back: t.s0,
@@ -50,22 +50,21 @@ pub fn turn_once(s: &mut [u64], cap: u64, d: u64, t: Turn)
         far: t.b,
         rank: t.rank1,
     };
-    tree::put_node(s, cap, d, t.n1, low);
-    tree::put_node(s, cap, d, t.s0, high);
-    tree::relink(s, cap, t.n2, t.n1, t.s0);
+    tree::put_node(s, d, t.n1, low);
+    tree::put_node(s, d, t.s0, high);
+    tree::relink(s, t.n2, t.n1, t.s0);
 }
 
 // "a rises to n1's old rank, n1 and s0 get a's old rank."
-pub fn turn_twice(s: &mut [u64], cap: u64, d: u64, t: Turn)
-    requires room { Room s.old cap }
-    requires d_bound { d ≤ 1 }
-    requires n1_lt_cap { t.n1 < cap }
-    requires s0_lt_cap { t.s0 < cap }
-    requires a_lt_cap { t.a < cap }
-    ensures { s.new ≡ turn_twice s.old cap d t }
+#[tactic(auto, unfolding(crate::specs::inner::Rotations::turn_twice, crate::specs::inner::Rotations::turn_twice_with))]
+pub fn turn_twice(s: &mut Store<'_>, d: Hand, t: Turn)
+    requires n1_lt_cap { t.n1 < s.old.cap }
+    requires s0_lt_cap { t.s0 < s.old.cap }
+    requires a_lt_cap { t.a < s.old.cap }
+    ensures { Becomes s.old s.new (turn_twice s.old.words.now s.old.cap d t) }
 {
-    let c = words::field(s, cap, t.a, LEFT + d);
-    let e = words::field(s, cap, t.a, RIGHT - d);
+    let c = s.field(t.a, LEFT + d.number);
+    let e = s.field(t.a, RIGHT - d.number);
     let one = Node {
         back: t.a,
         near: t.n0,
@@ -84,7 +83,7 @@ pub fn turn_twice(s: &mut [u64], cap: u64, d: u64, t: Turn)
         far: t.s0,
         rank: t.rank1,
     };
-    tree::spread(s, cap, d, t.n1, one, t.s0, other);
-    tree::put_node(s, cap, d, t.a, high);
-    tree::relink(s, cap, t.n2, t.n1, t.a);
+    tree::spread(s, d, t.n1, one, t.s0, other);
+    tree::put_node(s, d, t.a, high);
+    tree::relink(s, t.n2, t.n1, t.a);
 }
