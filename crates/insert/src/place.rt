@@ -1,6 +1,6 @@
-// Placing: a prepared insertion is carried out, and the three kinds of insertion from end to end.
-// A caller relies on the equality with specs/inner/Place.antt, and that loan and capacity stay. "An insertion that replaces never meets
-// 1": a slot is asked for only where a new entry is needed. From the Rust: SimpleOrdArenaInsertEntry::insert and insert_inx_manual_unwrap (ord/insert.rs).
+// Placing: a prepared insertion is carried out, and the three kinds of insertion from end to end. Loan and capacity of the store stay.
+// A caller relies on the equality with specs/inner/Place.antt. "An insertion that replaces never meets 1": a slot is asked for only
+// where a new entry is needed. From the Rust: SimpleOrdArenaInsertEntry::insert and insert_inx_manual_unwrap (ord/insert.rs).
 ghost use Rattle.std.specs.Prelude.{Ok, ◌≡◌, ◌<◌};
 ghost use Rattle.arena.specs.inner.Stored.{Becomes, Keeps};
 ghost use Rattle.insert.specs.inner.Kinds.{PreparedIn};
