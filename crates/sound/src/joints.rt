@@ -2,7 +2,7 @@
 // slot, for which the header's FIRST and LAST answer.
 // A reader may rely on: each test is a definition of specs/inner/Joints, for any words.
 // From the Rust: _check_invariants of ord/find.rs, its part on the chain.
-ghost use Rattle.std.specs.Prelude.{◌≡◌, ◌<◌};
+ghost use Rattle.std.specs.Prelude.{◌≡◌};
 ghost use Rattle.sound.specs.inner.Joints.{after_of, before_of, rises_test, join_test};
 
 use arena::store::View;

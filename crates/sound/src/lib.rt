@@ -3,7 +3,7 @@
 // From the Rust: _check_invariants of ord/find.rs, with the rules that document 01 adds.
 #![tactic(auto)]
 
-ghost use Rattle.std.specs.Prelude.{◌≡◌, ◌<◌};
+ghost use Rattle.std.specs.Prelude.{◌≡◌};
 ghost use Rattle.sound.specs.inner.Check.{top_test, unused_test, rules_test};
 ghost use Rattle.sound.specs.Decides.{Decides};
 

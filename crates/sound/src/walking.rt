@@ -1,7 +1,7 @@
 // The walk of the tree, left to right, from a link down: every node is tested, and each entry is joined to the one before it.
 // It goes no deeper than its budget, whatever the words hold, and meets no slot twice: a slot has one PREV, so time grows with the
 // capacity. From the Rust: _check_invariants of ord/find.rs.
-ghost use Rattle.std.specs.Prelude.{◌≡◌, ◌<◌};
+ghost use Rattle.std.specs.Prelude.{◌≡◌};
 ghost use Rattle.sound.specs.inner.Walking.{walk_model, whole_test};
 
 use crate::{joints, nodes};
