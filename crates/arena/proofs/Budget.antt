@@ -20,3 +20,6 @@ left n h = omega arith
 
 pub none_left : (n : ℕ) → budget ≤ n → budget - n ≡ 0
 none_left n h = omega arith
+
+-- for functions that raise a rank, which name it by `using`
+pub ruleset raising = (budget-fits)

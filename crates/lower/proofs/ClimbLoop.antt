@@ -1,6 +1,5 @@
 -- The turns of the climb's loop, by the answer of a turn.
 use mathlib.Core.Path.{◌≡◌}
-use mathlib.Core.Bool.{Bool, true, false}
 use mathlib.Core.List.{List}
 use Prim.Native.Nat.{ℕ, ◌+◌, ◌-◌, ◌<◌, ◌≤◌}
 use Rattle.arena.specs.inner.Budget.{budget}

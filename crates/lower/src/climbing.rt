@@ -52,7 +52,7 @@ pub fn lower_one(s: &mut Store<'_>, p1: u64, rank: u64) -> Result<Climbed, Refus
 }
 
 // "both two below s0, lower n1 and s0 and climb"
-#[tactic(auto, unfolding(crate::specs::inner::Climb::lowered_both, arena::specs::inner::Budget::budget))]
+#[tactic(auto, using(arena::proofs::Budget::raising), unfolding(crate::specs::inner::Climb::lowered_both))]
 fn lower_both(s: &mut Store<'_>, p1: u64, s0: u64, rank0: u64) -> Result<Climbed, Refusal>
     requires p1_lt_cap { p1 < s.old.cap }
     requires s0_lt_cap { s0 < s.old.cap }
@@ -67,7 +67,14 @@ fn lower_both(s: &mut Store<'_>, p1: u64, s0: u64, rank0: u64) -> Result<Climbed
 
 // A rotation, or n1 and s0 are lowered: by the ranks of a and b under s0, whose rank rs is one below n1's.
 #[tactic(auto, unfolding(crate::specs::inner::Climb::climb_past_with, arena::specs::inner::Budget::budget))]
-fn climb_by(s: &mut Store<'_>, d: Hand, t: Turn, rank0: u64, rs: u64, rb: u64) -> Result<Climbed, Refusal>
+fn climb_by(
+    s: &mut Store<'_>,
+    d: Hand,
+    t: Turn,
+    rank0: u64,
+    rs: u64,
+    rb: u64,
+) -> Result<Climbed, Refusal>
     requires n1_lt_cap { t.n1 < s.old.cap }
     requires s0_lt_cap { t.s0 < s.old.cap }
     requires rank0_lt_budget { rank0 < budget }

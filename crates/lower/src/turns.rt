@@ -29,7 +29,7 @@ pub struct Turn {
 }
 
 // "rotate s0 up to n1's old rank, and n1 to a's rank plus 1"
-#[tactic(auto, unfolding(crate::specs::inner::Rotations::turn_once, arena::specs::inner::Budget::budget))]
+#[tactic(auto, using(arena::proofs::Budget::raising), unfolding(crate::specs::inner::Rotations::turn_once))]
 pub fn turn_once(s: &mut Store<'_>, d: Hand, t: Turn)
     requires n1_lt_cap { t.n1 < s.old.cap }
     requires s0_lt_cap { t.s0 < s.old.cap }

@@ -1,7 +1,6 @@
 -- A turn of the climb, by the answer of its step: each way out of the code's loop, and the way round.
 use Prim.Native.Nat.{ℕ, ◌+◌, ◌-◌, ◌<◌, ◌≤◌}
 use mathlib.Core.Path.{◌≡◌}
-use mathlib.Core.Bool.{Bool, true, false}
 use mathlib.Core.List.{List}
 use Rattle.arena.specs.inner.Budget.{budget}
 use Rattle.arena.proofs.Budget.{left, none_left}

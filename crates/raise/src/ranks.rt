@@ -15,7 +15,7 @@ use handle::{Hand, Refusal};
 use tree::Climbed;
 
 // "raise n2 by one and climb": n2's rank becomes one more than n1's rank r1, and p3 above it is next.
-#[tactic(auto, unfolding(crate::specs::inner::Ranks::raised_up, crate::specs::inner::Ranks::above, arena::specs::inner::Budget::budget))]
+#[tactic(auto, using(arena::proofs::Budget::raising), unfolding(crate::specs::inner::Ranks::raised_up, crate::specs::inner::Ranks::above))]
 fn raise(s: &mut Store<'_>, p2: u64, p3: u64, r1: u64) -> Result<Climbed, Refusal>
     requires p2_lt_cap { p2 < s.old.cap }
     requires r1_lt_budget { r1 < budget }
@@ -33,7 +33,14 @@ fn raise(s: &mut Store<'_>, p2: u64, p3: u64, r1: u64) -> Result<Climbed, Refusa
 
 // One turn: n0 under n1 on the side d01, n1 under n2 on the side d12.
 #[tactic(auto, unfolding(crate::specs::inner::Ranks::fix_turn, crate::specs::inner::Ranks::fix_with, arena::specs::inner::Budget::budget))]
-fn fix_turn(s: &mut Store<'_>, p0: u64, p1: u64, p2: u64, d01: Hand, d12: Hand) -> Result<Climbed, Refusal>
+fn fix_turn(
+    s: &mut Store<'_>,
+    p0: u64,
+    p1: u64,
+    p2: u64,
+    d01: Hand,
+    d12: Hand,
+) -> Result<Climbed, Refusal>
     requires p0_lt_cap { p0 < s.old.cap }
     requires p1_lt_cap { p1 < s.old.cap }
     requires p2_lt_cap { p2 < s.old.cap }

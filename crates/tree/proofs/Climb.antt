@@ -1,7 +1,6 @@
 -- What holds of both climbs, by a turn's answer: where it goes on, and that it touches the tree alone.
 use Prim.Native.Nat.{ℕ, ◌<◌, ◌≤◌}
 use mathlib.Core.Path.{◌≡◌}
-use mathlib.Core.Bool.{Bool}
 use mathlib.Core.List.{List}
 use Rattle.arena.proofs.Only.{only_none, only_trans}
 use Rattle.tree.specs.inner.Climb.{Standing, on_climbed}

@@ -2,7 +2,7 @@
 -- Document 01: "While n1 is three above n0 with sibling s0: s0 two below n1, lower n1 by one and climb; else with a and b the inner and
 -- outer children of s0: b one below s0, rotate s0 up to n1's old rank, and n1 to a's rank plus 1; both two below s0, lower n1 and s0 and
 -- climb; else a rises to n1's old rank, n1 and s0 get a's old rank. A rotation ends the climb."
-use Rattle.std.specs.Prelude.{ℕ, zero, suc, ◌+◌, ◌-◌, Bool, false, List, ltb, leb, eqb, Result, Ok, Err, ⊤}
+use Rattle.std.specs.Prelude.{ℕ, zero, suc, ◌+◌, ◌-◌, List, ltb, leb, eqb, Result, Ok, Err, ⊤}
 use Rattle.arena.specs.Branch.{ifte}
 use Rattle.arena.specs.Words.{field, put, LEFT, RIGHT, RANK, BACK}
 use Rattle.arena.specs.inner.Budget.{budget}

@@ -1,7 +1,7 @@
 -- The ranks after a new entry, as functions of the store, for any words.
 -- Document 01: "Ranks after a new entry n0 (rank 1) under n1: if n1 had rank 2, stop. Else n1 becomes 2. Then with n2 above n1: no n2,
 -- or n1's rank below n2's: stop. If n2's other child is one below n2, raise n2 by one and climb. Otherwise restructure once and stop".
-use Rattle.std.specs.Prelude.{ℕ, zero, suc, ◌+◌, ◌-◌, Bool, true, false, List, ltb, leb, eqb, Result, Ok, Err, ⊤}
+use Rattle.std.specs.Prelude.{ℕ, zero, suc, ◌+◌, ◌-◌, List, ltb, leb, eqb, Result, Ok, Err, ⊤}
 use Rattle.arena.specs.Branch.{ifte}
 use Rattle.arena.specs.Words.{field, put, RIGHT, RANK, BACK}
 use Rattle.arena.specs.inner.Budget.{budget}

@@ -1,9 +1,8 @@
 -- What a climb does with a turn's answer, after an insertion and after a removal.
-use Rattle.std.specs.Prelude.{ℕ, ◌<◌, ◌≤◌, Bool, true, false, List, Result, Ok, Err, ⊤}
+use Rattle.std.specs.Prelude.{ℕ, ◌<◌, ◌≤◌, List, Result, Ok, Err, ⊤}
 use Rattle.tree.specs.declared.Climbed.{Climbed}
 use Rattle.tree.specs.declared.Climbed.TheVariants.{Done, Up}
 use Rattle.handle.specs.declared.Refusal.{Refusal}
-use Rattle.handle.specs.declared.Refusal.TheVariants.{NotSound}
 
 -- what the next turn asks of the answer: a node of the store and a side
 abbrev pub Standing : ℕ → Result Climbed Refusal → Type 0
