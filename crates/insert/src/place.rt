@@ -1,142 +1,152 @@
-// Placing: a prepared insertion is carried out, and the three kinds of insertion from end to end.
+// Placing: a prepared insertion is carried out, and the three kinds of insertion from end to end. Loan and capacity of the store stay.
 // A caller relies on the equality with specs/inner/Place.antt. "An insertion that replaces never meets 1": a slot is asked for only
 // where a new entry is needed. From the Rust: SimpleOrdArenaInsertEntry::insert and insert_inx_manual_unwrap (ord/insert.rs).
-ghost use Rattle.std.specs.Prelude.{Ok, ◌≡◌, ◌<◌, ◌≤◌};
-ghost use Rattle.arena.specs.Words.{Room};
+ghost use Rattle.std.specs.Prelude.{Ok, ◌≡◌, ◌<◌};
+ghost use Rattle.arena.specs.inner.Stored.{Becomes, Keeps};
 ghost use Rattle.insert.specs.inner.Kinds.{PreparedIn};
 ghost use Rattle.insert.specs.inner.Place.{stand_alone, placed_alone, hung_below, placed_beside, value_replaced, applied, normal_inserted, empty_inserted, manual_inserted};
 
-use crate::kinds::Prepared;
 use crate::kinds;
+use crate::kinds::Prepared;
+use arena::store::Store;
 use arena::words::{ROOT, VALUE};
-use arena::{entries, keys, slots, words};
-use handle::{Handle, Inserted, Key, Refusal, Side};
+use arena::{entries, keys, slots};
+use handle::{Hand, Handle, Inserted, Key, Refusal, Side};
 use raise::ranks;
 use tree::Node;
 
 // The slot i becomes the whole queue: an entry of rank 1 with no neighbour.
 #[tactic(auto, unfolding(crate::specs::inner::Place::stand_alone))]
-fn stand_alone(s: &mut [u64], cap: u64, i: u64, key: Key, value: u64)
-    requires room { Room s.old cap }
-    requires i_lt_cap { i < cap }
-    ensures { s.new ≡ stand_alone s.old cap i key.0 value }
+fn stand_alone(s: &mut Store<'_>, i: u64, key: Key, value: u64)
+    requires i_lt_cap { i < s.old.cap }
+    ensures { Becomes s.old s.new (stand_alone s.old.words.now s.old.cap i key.0 value) }
 {
-    entries::put_entry(s, cap, i, key, value);
+    entries::put_entry(s, i, key, value);
     let alone = Node {
         back: Handle::NO_SLOT,
         near: Handle::NO_SLOT,
         far: Handle::NO_SLOT,
         rank: 1,
     };
-    tree::put_node(s, cap, 0, i, alone);
-    chain::link_alone(s, cap, i);
-    words::put_head(s, ROOT, i);
+    tree::put_node(s, Hand::LEFT, i, alone);
+    chain::link_alone(s, i);
+    s.put_head(ROOT, i);
 }
 
 #[tactic(auto, unfolding(crate::specs::inner::Place::placed_alone))]
-fn place_alone(s: &mut [u64], cap: u64, key: Key, value: u64) -> Result<Inserted, Refusal>
-    requires { Room s.old cap }
-    ensures { (s.new, result) ≡ placed_alone s.old cap key.0 value }
+fn place_alone(s: &mut Store<'_>, key: Key, value: u64) -> Result<Inserted, Refusal>
+    ensures keeps { Keeps s.old s.new }
+    ensures result_after { (s.new.words.now, result) ≡ placed_alone s.old.words.now s.old.cap key.0 value }
 {
-    let h = slots::take(s, cap)?;
+    let h = slots::take(s)?;
     let i = h.slot.0;
-    stand_alone(s, cap, i, key, value);
+    stand_alone(s, i, key, value);
     Ok(Inserted::New(h))
 }
 
 // The slot i becomes the child of p on the side d: an entry of rank 1, beside p in the chain. Then the ranks are put right.
 #[tactic(auto, unfolding(crate::specs::inner::Place::hung_below, crate::specs::inner::Place::hung))]
-fn hang_below(s: &mut [u64], cap: u64, i: u64, p: u64, d: u64, key: Key, value: u64) -> Result<(), Refusal>
-    requires room { Room s.old cap }
-    requires i_lt_cap { i < cap }
-    requires p_lt_cap { p < cap }
-    requires d_bound { d ≤ 1 }
-    ensures { (s.new, result) ≡ hung_below s.old cap i p d key.0 value }
+fn hang_below(
+    s: &mut Store<'_>,
+    i: u64,
+    p: u64,
+    d: Hand,
+    key: Key,
+    value: u64,
+) -> Result<(), Refusal>
+    requires i_lt_cap { i < s.old.cap }
+    requires p_lt_cap { p < s.old.cap }
+    ensures keeps { Keeps s.old s.new }
+    ensures result_after { (s.new.words.now, result) ≡ hung_below s.old.words.now s.old.cap i p d key.0 value }
 {
-    entries::put_entry(s, cap, i, key, value);
+    entries::put_entry(s, i, key, value);
     let leaf = Node {
         back: p,
         near: Handle::NO_SLOT,
         far: Handle::NO_SLOT,
         rank: 1,
     };
-    tree::put_node(s, cap, 0, i, leaf);
-    chain::link_beside(s, cap, i, p, d);
-    tree::put_child(s, cap, p, d, i);
-    ranks::rebalance(s, cap, i, p)
+    tree::put_node(s, Hand::LEFT, i, leaf);
+    chain::link_beside(s, i, p, d);
+    tree::put_child(s, p, d, i);
+    ranks::rebalance(s, i, p)
 }
 
 #[tactic(auto, unfolding(crate::specs::inner::Place::placed_beside))]
-fn place_beside(s: &mut [u64], cap: u64, p: u64, d: u64, key: Key, value: u64) -> Result<Inserted, Refusal>
-    requires room { Room s.old cap }
-    requires p_lt_cap { p < cap }
-    requires d_bound { d ≤ 1 }
-    ensures { (s.new, result) ≡ placed_beside s.old cap p d key.0 value }
+fn place_beside(
+    s: &mut Store<'_>,
+    p: u64,
+    d: Hand,
+    key: Key,
+    value: u64,
+) -> Result<Inserted, Refusal>
+    requires p_lt_cap { p < s.old.cap }
+    ensures keeps { Keeps s.old s.new }
+    ensures result_after { (s.new.words.now, result) ≡ placed_beside s.old.words.now s.old.cap p d key.0 value }
 {
-    let h = slots::take(s, cap)?;
+    let h = slots::take(s)?;
     let i = h.slot.0;
-    hang_below(s, cap, i, p, d, key, value)?;
+    hang_below(s, i, p, d, key, value)?;
     Ok(Inserted::New(h))
 }
 
 // "Equal: the value is replaced, the old one returned, the handle kept, no slot used."
 #[tactic(auto, unfolding(crate::specs::inner::Place::value_replaced))]
-fn replace(s: &mut [u64], cap: u64, i: u64, value: u64) -> Result<Inserted, Refusal>
-    requires room { Room s.old cap }
-    requires i_lt_cap { i < cap }
-    ensures { (s.new, result) ≡ value_replaced s.old cap i value }
+fn replace(s: &mut Store<'_>, i: u64, value: u64) -> Result<Inserted, Refusal>
+    requires i_lt_cap { i < s.old.cap }
+    ensures keeps { Keeps s.old s.new }
+    ensures result_after { (s.new.words.now, result) ≡ value_replaced s.old.words.now s.old.cap i value }
 {
-    let h = slots::handle_at(s, cap, i);
-    let old = words::field(s, cap, i, VALUE);
-    words::put(s, cap, i, VALUE, value);
+    let h = slots::handle_at(s.view(), i);
+    let old = s.field(i, VALUE);
+    s.put(i, VALUE, value);
     Ok(Inserted::Replacing(h, old))
 }
 
 // Carries out what was prepared.
-pub fn apply(s: &mut [u64], cap: u64, p: Prepared, key: Key, value: u64) -> Result<Inserted, Refusal>
-    requires room { Room s.old cap }
-    requires prepared_in { PreparedIn cap (Ok p) }
-    ensures { (s.new, result) ≡ applied s.old cap (Ok p) key.0 value }
+pub fn apply(s: &mut Store<'_>, p: Prepared, key: Key, value: u64) -> Result<Inserted, Refusal>
+    requires prepared_in { PreparedIn s.old.cap (Ok p) }
+    ensures keeps { Keeps s.old s.new }
+    ensures result_after { (s.new.words.now, result) ≡ applied s.old.words.now s.old.cap (Ok p) key.0 value }
 {
     match p {
-        Prepared::Alone => place_alone(s, cap, key, value),
-        Prepared::Beside(q, d) => place_beside(s, cap, q, d, key, value),
-        Prepared::Replace(i) => replace(s, cap, i, value),
+        Prepared::Alone => place_alone(s, key, value),
+        Prepared::Beside(q, d) => place_beside(s, q, d, key, value),
+        Prepared::Replace(i) => replace(s, i, value),
     }
 }
 
 #[tactic(auto, unfolding(crate::specs::inner::Place::normal_inserted))]
-pub fn insert_normal(s: &mut [u64], cap: u64, key: Key, value: u64) -> Result<Inserted, Refusal>
-    requires { Room s.old cap }
-    ensures { (s.new, result) ≡ normal_inserted s.old cap key.0 value }
+pub fn insert_normal(s: &mut Store<'_>, key: Key, value: u64) -> Result<Inserted, Refusal>
+    ensures keeps { Keeps s.old s.new }
+    ensures result_after { (s.new.words.now, result) ≡ normal_inserted s.old.words.now s.old.cap key.0 value }
 {
     let k = keys::stored_key(key);
-    let p = kinds::prepare_normal(s, cap, k)?;
-    apply(s, cap, p, key, value)
+    let p = kinds::prepare_normal(s.view(), k)?;
+    apply(s, p, key, value)
 }
 
 #[tactic(auto, unfolding(crate::specs::inner::Place::empty_inserted))]
-pub fn insert_empty(s: &mut [u64], cap: u64, key: Key, value: u64) -> Result<Inserted, Refusal>
-    requires { Room s.old cap }
-    ensures { (s.new, result) ≡ empty_inserted s.old cap key.0 value }
+pub fn insert_empty(s: &mut Store<'_>, key: Key, value: u64) -> Result<Inserted, Refusal>
+    ensures keeps { Keeps s.old s.new }
+    ensures result_after { (s.new.words.now, result) ≡ empty_inserted s.old.words.now s.old.cap key.0 value }
 {
-    let p = kinds::prepare_empty(s, cap)?;
-    apply(s, cap, p, key, value)
+    let p = kinds::prepare_empty(s.view())?;
+    apply(s, p, key, value)
 }
 
 #[tactic(auto, unfolding(crate::specs::inner::Place::manual_inserted))]
 pub fn insert_manual(
-    s: &mut [u64],
-    cap: u64,
+    s: &mut Store<'_>,
     h: Handle,
     side: Side,
     key: Key,
     value: u64,
 ) -> Result<Inserted, Refusal>
-    requires { Room s.old cap }
-    ensures { (s.new, result) ≡ manual_inserted s.old cap h side key.0 value }
+    ensures keeps { Keeps s.old s.new }
+    ensures result_after { (s.new.words.now, result) ≡ manual_inserted s.old.words.now s.old.cap h side key.0 value }
 {
     let k = keys::stored_key(key);
-    let p = kinds::prepare_manual(s, cap, h, side, k)?;
-    apply(s, cap, p, key, value)
+    let p = kinds::prepare_manual(s.view(), h, side, k)?;
+    apply(s, p, key, value)
 }

@@ -31,7 +31,6 @@ use Rattle.remove.specs.declared.lifting.Lifted.{Lifted}
 use Rattle.arena.proofs.SlotReads.{live_low}
 use Rattle.arena.specs.declared.slots.Freed.{Freed}
 use Rattle.handle.specs.declared.Removed.{Removed}
-use Rattle.handle.specs.declared.Removed as D
 use Rattle.std.specs.Prelude.{Result, Ok, Err, ⊤}
 use Rattle.handle.specs.declared.Refusal.{Refusal}
 use Rattle.handle.specs.declared.Entry.{Entry}

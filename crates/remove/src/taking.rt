@@ -1,103 +1,100 @@
 // Taking a node out of the tree: a leaf is lifted out, another node is replaced by its neighbour in the chain; then the ranks are mended.
 // NotSound is answered on no sound store. The chain and the slot itself are left to the caller.
 // From the Rust: internal_remove of ord/remove.rs.
-ghost use Rattle.std.specs.Prelude.{◌≡◌, ◌<◌, ◌≤◌};
-ghost use Rattle.arena.specs.Words.{Room};
+ghost use Rattle.std.specs.Prelude.{◌≡◌, ◌<◌};
+ghost use Rattle.arena.specs.inner.Stored.{Keeps};
 ghost use Rattle.remove.specs.inner.Take.{is_childless, settle_bare, settle_at, replacement_of, filled_by, take_out};
 
 use crate::lifting;
-use arena::words;
+use arena::store::{Store, View};
 use arena::words::{LEFT, NEXT, PREV, RIGHT};
-use handle::{Handle, Refusal};
+use handle::{Hand, Handle, Refusal};
 use lower::climbing;
 use tree::Climbed;
 
 // Whether the node i has no child.
 #[tactic(auto, unfolding(crate::specs::inner::Take::is_childless))]
-fn childless(s: &[u64], cap: u64, i: u64) -> bool
-    requires room { Room s.now cap }
-    requires i_lt_cap { i < cap }
-    ensures { result ≡ is_childless s.now cap i }
+fn childless(s: View<'_>, i: u64) -> bool
+    requires i_lt_cap { i < s.cap }
+    ensures { result ≡ is_childless s.entry.words.now s.entry.cap i }
 {
-    if words::field(s, cap, i, LEFT) == Handle::NO_SLOT {
-        return words::field(s, cap, i, RIGHT) == Handle::NO_SLOT;
+    if s.field(i, LEFT) == Handle::NO_SLOT {
+        return s.field(i, RIGHT) == Handle::NO_SLOT;
     }
     false
 }
 
 // "If that parent is left childless it gets rank 1 and the climb goes one up."
 #[tactic(auto, using(tree::proofs::Climb::up_low, tree::proofs::Climb::up_side), unfolding(crate::specs::inner::Take::settle_bare))]
-fn settle_bare(s: &mut [u64], cap: u64, q: u64) -> Result<(), Refusal>
-    requires room { Room s.old cap }
-    requires q_lt_cap { q < cap }
-    ensures { (s.new, result) ≡ settle_bare s.old cap q }
+fn settle_bare(s: &mut Store<'_>, q: u64) -> Result<(), Refusal>
+    requires q_lt_cap { q < s.old.cap }
+    ensures keeps { Keeps s.old s.new }
+    ensures result_after { (s.new.words.now, result) ≡ settle_bare s.old.words.now s.old.cap q }
 {
-    match climbing::lower_one(s, cap, q, 1)? {
-        Climbed::Up(p, d) => climbing::climb(s, cap, p, d),
+    match climbing::lower_one(s, q, 1)? {
+        Climbed::Up(p, d) => climbing::climb(s, p, d),
         Climbed::Done => Ok(()),
     }
 }
 
 // The ranks from q on, whose child on the side e lost a node; nothing to do where there is no node above.
 #[tactic(auto, unfolding(crate::specs::inner::Take::settle_at))]
-fn settle(s: &mut [u64], cap: u64, q: u64, e: u64) -> Result<(), Refusal>
-    requires room { Room s.old cap }
-    requires e_bound { e ≤ 1 }
-    ensures { (s.new, result) ≡ settle_at s.old cap q e }
+fn settle(s: &mut Store<'_>, q: u64, e: Hand) -> Result<(), Refusal>
+    ensures keeps { Keeps s.old s.new }
+    ensures result_after { (s.new.words.now, result) ≡ settle_at s.old.words.now s.old.cap q e }
 {
-    if cap <= q {
+    if s.cap <= q {
         return Ok(());
     }
-    if childless(s, cap, q) {
-        return settle_bare(s, cap, q);
+    if childless(s.view(), q) {
+        return settle_bare(s, q);
     }
-    climbing::climb(s, cap, q, e)
+    climbing::climb(s, q, e)
 }
 
 // What replaces the node i, which has a child: its chain prev, or its next where it has no left child. On a sound store that is document
 // 01's choice: a node with no left child has rank 2, and its prev, if it has one, stands above it.
 #[tactic(auto, unfolding(crate::specs::inner::Take::replacement_of))]
-fn replacement(s: &[u64], cap: u64, i: u64) -> u64
-    requires room { Room s.now cap }
-    requires i_lt_cap { i < cap }
-    ensures { result ≡ replacement_of s.now cap i }
+fn replacement(s: View<'_>, i: u64) -> u64
+    requires i_lt_cap { i < s.cap }
+    ensures { result ≡ replacement_of s.entry.words.now s.entry.cap i }
 {
-    if words::field(s, cap, i, LEFT) == Handle::NO_SLOT {
-        return words::field(s, cap, i, NEXT);
+    if s.field(i, LEFT) == Handle::NO_SLOT {
+        return s.field(i, NEXT);
     }
-    words::field(s, cap, i, PREV)
+    s.field(i, PREV)
 }
 
 // m leaves its place and takes i's; where it hung under i, the ranks are mended from m on.
 #[tactic(auto, unfolding(crate::specs::inner::Take::filled_by, crate::specs::inner::Take::filled_from))]
-fn fill(s: &mut [u64], cap: u64, i: u64, m: u64) -> Result<(), Refusal>
-    requires room { Room s.old cap }
-    requires i_lt_cap { i < cap }
-    requires m_lt_cap { m < cap }
-    ensures { (s.new, result) ≡ filled_by s.old cap i m }
+fn fill(s: &mut Store<'_>, i: u64, m: u64) -> Result<(), Refusal>
+    requires i_lt_cap { i < s.old.cap }
+    requires m_lt_cap { m < s.old.cap }
+    ensures keeps { Keeps s.old s.new }
+    ensures result_after { (s.new.words.now, result) ≡ filled_by s.old.words.now s.old.cap i m }
 {
-    let at = lifting::lift(s, cap, m);
-    lifting::replace(s, cap, i, m);
+    let at = lifting::lift(s, m);
+    lifting::replace(s, i, m);
     if at.under == i {
-        return settle(s, cap, m, at.side);
+        return settle(s, m, at.side);
     }
-    settle(s, cap, at.under, at.side)
+    settle(s, at.under, at.side)
 }
 
 // The node i leaves the tree.
 #[tactic(auto, unfolding(crate::specs::inner::Take::take_out, crate::specs::inner::Take::closed_from, crate::specs::inner::Take::take_over))]
-pub fn take_out(s: &mut [u64], cap: u64, i: u64) -> Result<(), Refusal>
-    requires room { Room s.old cap }
-    requires i_lt_cap { i < cap }
-    ensures { (s.new, result) ≡ take_out s.old cap i }
+pub fn take_out(s: &mut Store<'_>, i: u64) -> Result<(), Refusal>
+    requires i_lt_cap { i < s.old.cap }
+    ensures keeps { Keeps s.old s.new }
+    ensures result_after { (s.new.words.now, result) ≡ take_out s.old.words.now s.old.cap i }
 {
-    if childless(s, cap, i) {
-        let at = lifting::lift(s, cap, i);
-        return settle(s, cap, at.under, at.side);
+    if childless(s.view(), i) {
+        let at = lifting::lift(s, i);
+        return settle(s, at.under, at.side);
     }
-    let m = replacement(s, cap, i);
-    if cap <= m {
+    let m = replacement(s.view(), i);
+    if s.cap <= m {
         return Err(Refusal::NotSound);
     }
-    fill(s, cap, i, m)
+    fill(s, i, m)
 }

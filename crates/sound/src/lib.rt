@@ -3,13 +3,13 @@
 // From the Rust: _check_invariants of ord/find.rs, with the rules that document 01 adds.
 #![tactic(auto)]
 
-ghost use Rattle.std.specs.Prelude.{◌≡◌, ◌<◌};
-ghost use Rattle.arena.specs.Words.{Long, Room};
+ghost use Rattle.std.specs.Prelude.{◌≡◌};
 ghost use Rattle.sound.specs.inner.Check.{top_test, unused_test, rules_test};
 ghost use Rattle.sound.specs.Decides.{Decides};
 
+use arena::header;
+use arena::store::View;
 use arena::words::{HEIGHT, TOP};
-use arena::{header, words};
 use handle::TOP_LIMIT;
 
 pub mod joints;
@@ -32,12 +32,11 @@ fn good_top(top: u64) -> bool
 }
 
 // Rule 7 of the header: the ten words behind ROOT.
-fn unused(s: &[u64]) -> bool
-    requires { Long s.now 0 }
-    ensures { result ≡ unused_test 10 s.now }
+fn unused(s: View<'_>) -> bool
+    ensures { result ≡ unused_test 10 s.entry.words.now }
 {
     for k in (0..10).rev() {
-        if words::head(s, 6 + k) != 0 {
+        if s.head(6 + k) != 0 {
             return false;
         }
     }
@@ -46,13 +45,12 @@ fn unused(s: &[u64]) -> bool
 
 // Rules 1 to 7 of a store whose header passes.
 #[tactic(auto, unfolding(crate::specs::inner::Check::rules_test, crate::specs::inner::Check::rules_with))]
-fn good_rules(s: &[u64], cap: u64) -> bool
-    requires { Room s.now cap }
-    ensures { result ≡ rules_test s.now cap }
+fn good_rules(s: View<'_>) -> bool
+    ensures { result ≡ rules_test s.entry.words.now s.entry.cap }
 {
-    let top = words::head(s, TOP);
-    let h = words::head(s, HEIGHT);
-    if cap < h {
+    let top = s.head(TOP);
+    let h = s.head(HEIGHT);
+    if s.cap < h {
         return false;
     }
     if !good_top(top) {
@@ -61,8 +59,8 @@ fn good_rules(s: &[u64], cap: u64) -> bool
     if !unused(s) {
         return false;
     }
-    if slots::good_slots(s, cap, top, h) {
-        return walking::good_tree(s, cap, top);
+    if slots::good_slots(s, top, h) {
+        return walking::good_tree(s, top);
     }
     false
 }
@@ -74,5 +72,5 @@ pub fn sound(s: &[u64]) -> bool
     let Ok(cap) = header::test(s) else {
         return false;
     };
-    good_rules(s, cap)
+    good_rules(View { words: s, cap })
 }

@@ -2,10 +2,9 @@
 // A reader may rely on: each test is a definition of specs/inner/Nodes, for any words.
 // From the Rust: _check_invariants of ord/find.rs, its part on links back and ranks.
 ghost use Rattle.std.specs.Prelude.{◌≡◌, ◌<◌};
-ghost use Rattle.arena.specs.Words.{Room};
 ghost use Rattle.sound.specs.inner.Nodes.{fits_test, generation_test, ranks_test, node_test};
 
-use arena::words;
+use arena::store::View;
 use arena::words::{BACK, GENERATION, LEFT, RANK, RIGHT};
 
 // Rule 2 of a rank r over children of the ranks a and b. Differences, as a sum of two words may not fit.
@@ -47,31 +46,29 @@ pub fn good_generation(g: u64, top: u64) -> bool
 
 // Rule 2 at the slot p.
 #[tactic(auto, unfolding(crate::specs::inner::Nodes::ranks_test))]
-fn good_ranks(s: &[u64], cap: u64, p: u64) -> bool
-    requires room { Room s.now cap }
-    requires p_lt_cap { p < cap }
-    ensures { result ≡ ranks_test s.now cap p }
+fn good_ranks(s: View<'_>, p: u64) -> bool
+    requires p_lt_cap { p < s.cap }
+    ensures { result ≡ ranks_test s.entry.words.now s.entry.cap p }
 {
-    let r = words::field(s, cap, p, RANK);
-    let a = tree::rank_of(s, cap, words::field(s, cap, p, LEFT));
-    let b = tree::rank_of(s, cap, words::field(s, cap, p, RIGHT));
+    let r = s.field(p, RANK);
+    let a = tree::rank_of(s, s.field(p, LEFT));
+    let b = tree::rank_of(s, s.field(p, RIGHT));
     fits(r, a, b)
 }
 
 // The link p, found below the slot `back`, leads to a node that hangs there.
 #[tactic(auto, unfolding(crate::specs::inner::Nodes::node_test))]
-pub fn good_node(s: &[u64], cap: u64, top: u64, back: u64, p: u64) -> bool
-    requires { Room s.now cap }
-    ensures { result ≡ node_test s.now cap top back p }
+pub fn good_node(s: View<'_>, top: u64, back: u64, p: u64) -> bool
+    ensures { result ≡ node_test s.entry.words.now s.entry.cap top back p }
 {
-    if cap <= p {
+    if s.cap <= p {
         return false;
     }
-    if words::field(s, cap, p, BACK) != back {
+    if s.field(p, BACK) != back {
         return false;
     }
-    if good_generation(words::field(s, cap, p, GENERATION), top) {
-        return good_ranks(s, cap, p);
+    if good_generation(s.field(p, GENERATION), top) {
+        return good_ranks(s, p);
     }
     false
 }

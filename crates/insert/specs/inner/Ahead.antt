@@ -4,8 +4,6 @@
 use Rattle.std.specs.Prelude.{ℕ, List, ℤ, Result, Ok, Err}
 use Rattle.handle.specs.declared.Handle.{Handle}
 use Rattle.handle.specs.declared.Side.{Side}
-use Rattle.handle.specs.declared.Refusal.TheVariants.{NotWithinCapacity, FailedOrdRequirement}
-use Rattle.handle.specs.declared.Refusal as R
 use Rattle.arena.specs.Keys.{stored}
 use Rattle.arena.specs.inner.Slots.{handle_with, peek_slot}
 use Rattle.arena.specs.Words.{field, GENERATION}

@@ -1,11 +1,9 @@
 -- Placing, as a function of the store, for any words: the store afterwards and the answer.
 -- Document 01: "Any insertion answers New or Replacing with the handle, and the old value if replacing."
-use Rattle.std.specs.Prelude.{ℕ, Bool, true, false, List, ℤ, Result, Ok, Err, ⊤}
+use Rattle.std.specs.Prelude.{ℕ, List, ℤ, Result, Ok, Err, ⊤}
 use Rattle.handle.specs.Numbers.{no_slot}
 use Rattle.handle.specs.declared.Handle.{Handle}
 use Rattle.handle.specs.declared.Side.{Side}
-use Rattle.handle.specs.declared.Refusal.TheVariants.{NotWithinCapacity, FailedOrdRequirement}
-use Rattle.handle.specs.declared.Refusal as R
 use Rattle.arena.specs.inner.Entries.{entry_put}
 use Rattle.arena.specs.Keys.{stored}
 use Rattle.arena.specs.inner.Slots.{handle_with, take_slot}

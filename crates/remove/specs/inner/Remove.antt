@@ -1,10 +1,9 @@
 -- Removal and reading by handle, as functions of the store, for any words.
 -- Document 01: "At the top generation the entry is still removed and returned, with the note GenerationOverflow"; "InvalidPtr: removal,
 -- reading or stepping with a handle that names no live entry"; "Reading and removal answer key and value."
-use Rattle.std.specs.Prelude.{ℕ, Bool, List, Result, Ok, Err, ⊤}
+use Rattle.std.specs.Prelude.{ℕ, List, Result, Ok, Err, ⊤}
 use Rattle.handle.specs.declared.Handle.{Handle}
 use Rattle.handle.specs.declared.Refusal.TheVariants.{InvalidPtr}
-use Rattle.handle.specs.declared.Refusal as R
 use Rattle.arena.specs.Branch.{ifte}
 use Rattle.arena.specs.inner.Entries.{is_live, entry_of}
 use Rattle.arena.specs.inner.Slots.{free_slot}
