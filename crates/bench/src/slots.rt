@@ -1,6 +1,7 @@
 // Lays out stores of several sizes, takes and frees slots to exhaustion and to retirement, and writes what it saw.
 use crate::tell_laid;
 use arena::slots::Freed;
+use arena::store::Store;
 use arena::words::STORE;
 use arena::{header, slots};
 use handle::{Handle, LIMIT, Refusal, TOP_LIMIT};
@@ -17,7 +18,7 @@ fn lay(s: &mut [u64], capacity: u64, top: u64) {
 // Takes a slot from a store whose header passes.
 fn take(s: &mut [u64]) -> Result<Handle, Refusal> {
     let cap = header::test(s)?;
-    slots::take(s, cap)
+    slots::take(&mut Store::new(s, cap))
 }
 
 // Takes a slot and says which.
@@ -40,7 +41,7 @@ fn free_one(s: &mut [u64], i: u64) {
         say_line!("no such slot");
         return;
     }
-    match slots::free(s, cap, i) {
+    match slots::free(&mut Store::new(s, cap), i) {
         Ok(Freed::Again) => say_line!("free again"),
         Ok(Freed::GenerationOverflow) => say_line!("GenerationOverflow, retired"),
         Err(_) => say_line!("not sound"),

@@ -4,11 +4,9 @@
 
 pub mod walking;
 
-ghost use Rattle.std.specs.Prelude.{◌<◌};
-ghost use Rattle.arena.specs.Words.{Room};
-
+use arena::header;
+use arena::store::View;
 use arena::words::{HEIGHT, RANK};
-use arena::{header, words};
 use handle::{Handle, Refusal};
 use output::phrases::Refused;
 use output::{say, say_line};
@@ -28,20 +26,19 @@ pub fn print(store: &[u64]) {
 // A store whose header passes, to be listed.
 #[derive(Clone, Copy)]
 pub struct Listing<'a> {
-    pub store: &'a [u64],
-    pub capacity: u64,
-    pub ghost room: { Room store.now capacity },
+    pub store: View<'a>,
 }
 
 impl<'a> Listing<'a> {
-    pub fn of(store: &'a [u64]) -> Result<Listing<'a>, Refusal> {
-        let capacity = header::test(store)?;
-        Ok(Listing { store, capacity })
+    pub fn of(words: &'a [u64]) -> Result<Listing<'a>, Refusal> {
+        let cap = header::test(words)?;
+        let store = View { words, cap };
+        Ok(Listing { store })
     }
 
     // The handles of the entries in order. No chain has more entries than slots.
     pub fn entries(&self) -> Walk<'a> {
-        Walk::first(self.store, self.capacity)
+        Walk::first(self.store.words, self.store.cap)
     }
 
     // How many entries the chain has.
@@ -51,7 +48,7 @@ impl<'a> Listing<'a> {
 
     // The key and the value of an entry, or the number of the refusal.
     pub fn key_and_value<W: fmt::Write>(&self, h: Handle, f: &mut Formatter<W>) -> fmt::Result {
-        match looking::read(self.store, h) {
+        match looking::read(self.store.words, h) {
             Ok(e) => write!(f, "{e}"),
             Err(r) => write!(f, "{}", r.number()),
         }
@@ -59,12 +56,8 @@ impl<'a> Listing<'a> {
 
     // A space, and the rank of a slot.
     pub fn rank<W: fmt::Write>(&self, slot: u64, f: &mut Formatter<W>) -> fmt::Result {
-        if slot < self.capacity {
-            write!(
-                f,
-                " {}",
-                words::field(self.store, self.capacity, slot, RANK)
-            )
+        if slot < self.store.cap {
+            write!(f, " {}", self.store.field(slot, RANK))
         } else {
             Ok(())
         }
@@ -73,8 +66,8 @@ impl<'a> Listing<'a> {
     // `live L free F retired R`: a slot that is neither live nor free is retired.
     fn counts<W: fmt::Write>(&self, f: &mut Formatter<W>) -> fmt::Result {
         let live = self.live();
-        let free = words::head(self.store, HEIGHT);
-        let retired = self.capacity.saturating_sub(live).saturating_sub(free);
+        let free = self.store.head(HEIGHT);
+        let retired = self.store.cap.saturating_sub(live).saturating_sub(free);
         writeln!(f, "live {live} free {free} retired {retired}")
     }
 

@@ -2,7 +2,6 @@
 // Entries are named by the numbers of their insertions. `{}` writes it, in many lines.
 ghost use Rattle.std.specs.Prelude.{◌<◌};
 
-use arena::words;
 use arena::words::{BACK, FIRST, LAST, LEFT, NEXT, PREV, RIGHT, ROOT};
 use handle::{Handle, Refusal};
 use listing::Listing;
@@ -25,22 +24,12 @@ impl<'a> Dump<'a> {
 
     // `dump LIVE root N first N last N`
     fn ends<W: fmt::Write>(&self, f: &mut Formatter<W>) -> fmt::Result {
-        write!(f, "dump {}", self.listing.live())?;
-        write!(
-            f,
-            " root {}",
-            self.link(words::head(self.listing.store, ROOT))
-        )?;
-        write!(
-            f,
-            " first {}",
-            self.link(words::head(self.listing.store, FIRST))
-        )?;
-        writeln!(
-            f,
-            " last {}",
-            self.link(words::head(self.listing.store, LAST))
-        )
+        let store = self.listing.store;
+        let root = self.link(store.head(ROOT));
+        let first = self.link(store.head(FIRST));
+        let last = self.link(store.head(LAST));
+        let live = self.listing.live();
+        writeln!(f, "dump {live} root {root} first {first} last {last}")
     }
 
     // `N KEY VALUE RANK BACK LEFT RIGHT PREV NEXT`
@@ -49,14 +38,10 @@ impl<'a> Dump<'a> {
         write!(f, "{} ", self.table.number_of(slot))?;
         self.listing.key_and_value(h, f)?;
         self.listing.rank(slot, f)?;
-        let Listing { store, capacity } = self.listing;
-        if slot < capacity {
+        let store = self.listing.store;
+        if slot < store.cap {
             for field in [BACK, LEFT, RIGHT, PREV, NEXT] {
-                write!(
-                    f,
-                    " {}",
-                    self.link(words::field(store, capacity, slot, field))
-                )?;
+                write!(f, " {}", self.link(store.field(slot, field)))?;
             }
         }
         writeln!(f)

@@ -1,6 +1,7 @@
 // The check of a store, and a store that it must find broken.
 use arena::words::NEXT;
-use arena::{header, words};
+use arena::header;
+use arena::store::Store;
 use handle::Handle;
 use output::say_line;
 use queue::looking;
@@ -21,6 +22,6 @@ pub fn lose_link(s: &mut [u64], h: Handle) {
     };
     let i = h.slot.0;
     if i < cap {
-        words::put(s, cap, i, NEXT, Handle::NO_SLOT);
+        Store::new(s, cap).put(i, NEXT, Handle::NO_SLOT);
     }
 }
