@@ -7,7 +7,7 @@ ghost use Rattle.arena.specs.inner.Entries.{is_live, entry_of, entry_put};
 use crate::keys;
 use crate::store::{Store, View};
 use crate::words::{GENERATION, KEY, RANK, VALUE};
-use handle::{Entry, Handle, Key};
+use handle::{Entry, Handle};
 
 // Whether h names a live entry: its slot has a rank and is in h's generation.
 #[tactic(auto, unfolding(crate::specs::inner::Entries::is_live))]
@@ -37,10 +37,10 @@ pub fn read_entry(s: View<'_>, i: u64) -> Entry
 
 // The slot i gets a key and a value.
 #[tactic(auto, unfolding(crate::specs::inner::Entries::entry_put))]
-pub fn put_entry(s: &mut Store<'_>, i: u64, key: Key, value: u64)
+pub fn put_entry(s: &mut Store<'_>, i: u64, entry: Entry)
     requires i_lt_cap { i < s.old.cap }
-    ensures { Becomes s.old s.new (entry_put s.old.words.now s.old.cap i key.0 value) }
+    ensures { Becomes s.old s.new (entry_put s.old.words.now s.old.cap i entry.key.0 entry.value) }
 {
-    s.put(i, KEY, keys::stored_key(key));
-    s.put(i, VALUE, value);
+    s.put(i, KEY, keys::stored_key(entry.key));
+    s.put(i, VALUE, entry.value);
 }

@@ -11,17 +11,17 @@ use crate::kinds::Prepared;
 use arena::store::Store;
 use arena::words::{ROOT, VALUE};
 use arena::{entries, keys, slots};
-use handle::{Hand, Handle, Inserted, Key, Refusal, Side};
+use handle::{Entry, Hand, Handle, Inserted, Refusal, Side};
 use raise::ranks;
 use tree::Node;
 
 // The slot i becomes the whole queue: an entry of rank 1 with no neighbour.
 #[tactic(auto, unfolding(crate::specs::inner::Place::stand_alone))]
-fn stand_alone(s: &mut Store<'_>, i: u64, key: Key, value: u64)
+fn stand_alone(s: &mut Store<'_>, i: u64, entry: Entry)
     requires i_lt_cap { i < s.old.cap }
-    ensures { Becomes s.old s.new (stand_alone s.old.words.now s.old.cap i key.0 value) }
+    ensures { Becomes s.old s.new (stand_alone s.old.words.now s.old.cap i entry.key.0 entry.value) }
 {
-    entries::put_entry(s, i, key, value);
+    entries::put_entry(s, i, entry);
     let alone = Node {
         back: Handle::NO_SLOT,
         near: Handle::NO_SLOT,
@@ -34,32 +34,25 @@ fn stand_alone(s: &mut Store<'_>, i: u64, key: Key, value: u64)
 }
 
 #[tactic(auto, unfolding(crate::specs::inner::Place::placed_alone))]
-fn place_alone(s: &mut Store<'_>, key: Key, value: u64) -> Result<Inserted, Refusal>
+fn place_alone(s: &mut Store<'_>, entry: Entry) -> Result<Inserted, Refusal>
     ensures keeps { Keeps s.old s.new }
-    ensures result_after { (s.new.words.now, result) ≡ placed_alone s.old.words.now s.old.cap key.0 value }
+    ensures result_after { (s.new.words.now, result) ≡ placed_alone s.old.words.now s.old.cap entry.key.0 entry.value }
 {
     let h = slots::take(s)?;
     let i = h.slot.0;
-    stand_alone(s, i, key, value);
+    stand_alone(s, i, entry);
     Ok(Inserted::New(h))
 }
 
 // The slot i becomes the child of p on the side d: an entry of rank 1, beside p in the chain. Then the ranks are put right.
 #[tactic(auto, unfolding(crate::specs::inner::Place::hung_below, crate::specs::inner::Place::hung))]
-fn hang_below(
-    s: &mut Store<'_>,
-    i: u64,
-    p: u64,
-    d: Hand,
-    key: Key,
-    value: u64,
-) -> Result<(), Refusal>
+fn hang_below(s: &mut Store<'_>, i: u64, p: u64, d: Hand, entry: Entry) -> Result<(), Refusal>
     requires i_lt_cap { i < s.old.cap }
     requires p_lt_cap { p < s.old.cap }
     ensures keeps { Keeps s.old s.new }
-    ensures result_after { (s.new.words.now, result) ≡ hung_below s.old.words.now s.old.cap i p d key.0 value }
+    ensures result_after { (s.new.words.now, result) ≡ hung_below s.old.words.now s.old.cap i p d entry.key.0 entry.value }
 {
-    entries::put_entry(s, i, key, value);
+    entries::put_entry(s, i, entry);
     let leaf = Node {
         back: p,
         near: Handle::NO_SLOT,
@@ -73,20 +66,14 @@ fn hang_below(
 }
 
 #[tactic(auto, unfolding(crate::specs::inner::Place::placed_beside))]
-fn place_beside(
-    s: &mut Store<'_>,
-    p: u64,
-    d: Hand,
-    key: Key,
-    value: u64,
-) -> Result<Inserted, Refusal>
+fn place_beside(s: &mut Store<'_>, p: u64, d: Hand, entry: Entry) -> Result<Inserted, Refusal>
     requires p_lt_cap { p < s.old.cap }
     ensures keeps { Keeps s.old s.new }
-    ensures result_after { (s.new.words.now, result) ≡ placed_beside s.old.words.now s.old.cap p d key.0 value }
+    ensures result_after { (s.new.words.now, result) ≡ placed_beside s.old.words.now s.old.cap p d entry.key.0 entry.value }
 {
     let h = slots::take(s)?;
     let i = h.slot.0;
-    hang_below(s, i, p, d, key, value)?;
+    hang_below(s, i, p, d, entry)?;
     Ok(Inserted::New(h))
 }
 
@@ -104,35 +91,35 @@ fn replace(s: &mut Store<'_>, i: u64, value: u64) -> Result<Inserted, Refusal>
 }
 
 // Carries out what was prepared.
-pub fn apply(s: &mut Store<'_>, p: Prepared, key: Key, value: u64) -> Result<Inserted, Refusal>
+pub fn apply(s: &mut Store<'_>, p: Prepared, entry: Entry) -> Result<Inserted, Refusal>
     requires prepared_in { PreparedIn s.old.cap (Ok p) }
     ensures keeps { Keeps s.old s.new }
-    ensures result_after { (s.new.words.now, result) ≡ applied s.old.words.now s.old.cap (Ok p) key.0 value }
+    ensures result_after { (s.new.words.now, result) ≡ applied s.old.words.now s.old.cap (Ok p) entry.key.0 entry.value }
 {
     match p {
-        Prepared::Alone => place_alone(s, key, value),
-        Prepared::Beside(q, d) => place_beside(s, q, d, key, value),
-        Prepared::Replace(i) => replace(s, i, value),
+        Prepared::Alone => place_alone(s, entry),
+        Prepared::Beside(q, d) => place_beside(s, q, d, entry),
+        Prepared::Replace(i) => replace(s, i, entry.value),
     }
 }
 
 #[tactic(auto, unfolding(crate::specs::inner::Place::normal_inserted))]
-pub fn insert_normal(s: &mut Store<'_>, key: Key, value: u64) -> Result<Inserted, Refusal>
+pub fn insert_normal(s: &mut Store<'_>, entry: Entry) -> Result<Inserted, Refusal>
     ensures keeps { Keeps s.old s.new }
-    ensures result_after { (s.new.words.now, result) ≡ normal_inserted s.old.words.now s.old.cap key.0 value }
+    ensures result_after { (s.new.words.now, result) ≡ normal_inserted s.old.words.now s.old.cap entry.key.0 entry.value }
 {
-    let k = keys::stored_key(key);
+    let k = keys::stored_key(entry.key);
     let p = kinds::prepare_normal(s.view(), k)?;
-    apply(s, p, key, value)
+    apply(s, p, entry)
 }
 
 #[tactic(auto, unfolding(crate::specs::inner::Place::empty_inserted))]
-pub fn insert_empty(s: &mut Store<'_>, key: Key, value: u64) -> Result<Inserted, Refusal>
+pub fn insert_empty(s: &mut Store<'_>, entry: Entry) -> Result<Inserted, Refusal>
     ensures keeps { Keeps s.old s.new }
-    ensures result_after { (s.new.words.now, result) ≡ empty_inserted s.old.words.now s.old.cap key.0 value }
+    ensures result_after { (s.new.words.now, result) ≡ empty_inserted s.old.words.now s.old.cap entry.key.0 entry.value }
 {
     let p = kinds::prepare_empty(s.view())?;
-    apply(s, p, key, value)
+    apply(s, p, entry)
 }
 
 #[tactic(auto, unfolding(crate::specs::inner::Place::manual_inserted))]
@@ -140,13 +127,12 @@ pub fn insert_manual(
     s: &mut Store<'_>,
     h: Handle,
     side: Side,
-    key: Key,
-    value: u64,
+    entry: Entry,
 ) -> Result<Inserted, Refusal>
     ensures keeps { Keeps s.old s.new }
-    ensures result_after { (s.new.words.now, result) ≡ manual_inserted s.old.words.now s.old.cap h side key.0 value }
+    ensures result_after { (s.new.words.now, result) ≡ manual_inserted s.old.words.now s.old.cap h side entry.key.0 entry.value }
 {
-    let k = keys::stored_key(key);
+    let k = keys::stored_key(entry.key);
     let p = kinds::prepare_manual(s.view(), h, side, k)?;
-    apply(s, p, key, value)
+    apply(s, p, entry)
 }
