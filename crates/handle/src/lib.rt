@@ -3,8 +3,8 @@
 // From the Rust: fundamental/ptr.rs (Ptr, its index and its generation) and fundamental/errors.rs.
 #![tactic(auto)]
 
-mod showing;
 pub mod hand;
+mod showing;
 
 ghost use Rattle.std.specs.Prelude.{◌≡◌};
 ghost use Rattle.handle.specs.Numbers.{no_slot, first_generation, refusal_number};
