@@ -11,7 +11,7 @@ use Rattle.chain.specs.inner.Steps.{followed}
 use Rattle.std.specs.Prelude.{Ok, Some, None}
 
 module _ (s : List ℕ) (cap p : ℕ) where
-  pub follow-none : p ≡ no_slot → followed s cap p ≡ (Ok None)
+  pub follow-none : p ≡ no_slot → followed s cap p ≡ Ok None
   unfolding followed
   follow-none e = rw (eq-eqb p no_slot e)
 

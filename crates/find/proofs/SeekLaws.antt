@@ -31,7 +31,7 @@ side-small k key = go (dec_lt k key)
 
 -- from the root
 module _ (s : List ℕ) (cap k root : ℕ) (e : head s ROOT ≡ root) where
-  pub seek-empty : root ≡ no_slot → seek_model s cap k ≡ (Ok Empty)
+  pub seek-empty : root ≡ no_slot → seek_model s cap k ≡ Ok Empty
   unfolding seek_model seek_at
   seek-empty h = rw (e, eq-eqb root no_slot h)
 
@@ -44,7 +44,7 @@ module _ (s : List ℕ) (cap k root : ℕ) (e : head s ROOT ≡ root) where
 
 -- at a node p, with a turn left
 module _ (fuel : ℕ) (s : List ℕ) (cap k p n : ℕ) where
-  pub seek-outside : cap ≤ p → seek_from (suc fuel) s cap k p n ≡ (Err NotSound)
+  pub seek-outside : cap ≤ p → seek_from (suc fuel) s cap k p n ≡ Err NotSound
   unfolding seek_from
   seek-outside l = rw (le-leb cap p l)
 

@@ -18,11 +18,11 @@ use Rattle.handle.specs.declared.Refusal.{Refusal}
 pub start : (s : List ℕ) (cap k root : ℕ) → root ≡ head s ROOT → (root ≡ no_slot → ⊥) → seek_from (budget - 0) s cap k root 0 ≡ seek_model s cap k
 start s cap k root e h = let z : budget - 0 ≡ budget = omega arith in rw z (sym (seek-some s cap k root (sym e) h))
 
-pub none : (s : List ℕ) (cap k root : ℕ) → root ≡ head s ROOT → root ≡ no_slot → (Ok Empty) ≡ seek_model s cap k
+pub none : (s : List ℕ) (cap k root : ℕ) → root ≡ head s ROOT → root ≡ no_slot → Ok Empty ≡ seek_model s cap k
 none s cap k root e h = sym (seek-empty s cap k root (sym e) h)
 
 module _ (s : List ℕ) (cap k p n : ℕ) (r : Result Found Refusal) (inv : seek_from (budget - n) s cap k p n ≡ r) where
-  pub spent : budget ≤ n → (Err NotSound) ≡ r
+  pub spent : budget ≤ n → Err NotSound ≡ r
   unfolding seek_from
   spent h = rw (none_left n h) at inv
 
@@ -30,7 +30,7 @@ module _ (s : List ℕ) (cap k p n : ℕ) (r : Result Found Refusal) (inv : seek
     turn : seek_from (suc (budget - (n + 1))) s cap k p n ≡ r
     turn = rw (left n h) at inv
 
-    pub outside : cap ≤ p → (Err NotSound) ≡ r
+    pub outside : cap ≤ p → Err NotSound ≡ r
     outside l = sym (seek-outside _ s cap k p n l) ∙ turn
 
     module _ (l : p < cap) (key : ℕ) (e : key ≡ field s cap p KEY) where

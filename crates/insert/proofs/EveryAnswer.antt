@@ -24,7 +24,7 @@ use Rattle.handle.specs.declared.Inserted.TheVariants.{New, Replacing}
 use Rattle.std.specs.Prelude.{Result, Ok, Err, ⊤}
 
 -- the refusal 5, which an insertion may give after it has written
-abbrev pub Unsound : (Result Inserted Refusal) → Type 0
+abbrev pub Unsound : Result Inserted Refusal → Type 0
 Unsound a = a ≡ Err R.TheVariants.NotSound
 
 new-no : {A : Type 0} (h : Handle) (r : Refusal) → ◌≡◌ {A = Result Inserted Refusal} (Ok (New h)) (Err r) → A

@@ -153,7 +153,7 @@ module _ {s : List ℕ} {q : Queue} (hold : Holds s q) (k : ℕ) where
           let key : field s cap (slot_of n) KEY ≡ y.key = rw g (live-entry hold y i).key-is in
           rw (here.key-is, lies_yes d k x f.0, link, ne_eqb (slot_of n) no_slot (λ z. omega arith), lt-leb cap (slot_of n) (rw g low), key, over_yes d k y f.1) place-beside
 
-      fails : (m : Option Entry) → n ≡ m → ¬ (Between d (keyed k) x m) → Dec (Beside d (keyed k) x) → prepared_beside s cap x.slot (number d) k ≡ (Err FailedOrdRequirement)
+      fails : (m : Option Entry) → n ≡ m → ¬ (Between d (keyed k) x m) → Dec (Beside d (keyed k) x) → prepared_beside s cap x.slot (number d) k ≡ Err FailedOrdRequirement
       unfolding prepared_beside beside_next
       fails m u f (no z) = rw (here.key-is, lies_no d k x z)
       fails none u f (yes z) = absurd (f z)

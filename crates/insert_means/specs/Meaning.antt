@@ -10,13 +10,13 @@ use Rattle.std.specs.Prelude.{Result, Ok, Err}
 use Rattle.handle.specs.declared.Refusal.{Refusal}
 
 -- "Any insertion answers New or Replacing with the handle, and the old value if replacing."
-abbrev pub inserted_means : (Result I.Inserted Refusal) → Inserted
+abbrev pub inserted_means : Result I.Inserted Refusal → Inserted
 inserted_means (Ok (I.TheVariants.New h)) = new (plain h)
 inserted_means (Ok (I.TheVariants.Replacing h old)) = replacing (plain h) old
 inserted_means (Err n) = not_inserted (refusal_number n)
 
 -- "The look-ahead tells New or Replacing with the handle, or the refusal"
-abbrev pub ahead_means : (Result A.Ahead Refusal) → Ahead
+abbrev pub ahead_means : Result A.Ahead Refusal → Ahead
 ahead_means (Ok (A.TheVariants.New h)) = would_add (plain h)
 ahead_means (Ok (A.TheVariants.Replacing h)) = would_replace (plain h)
 ahead_means (Err n) = would_refuse (refusal_number n)

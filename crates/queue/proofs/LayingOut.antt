@@ -21,7 +21,7 @@ use Rattle.std.specs.Prelude.{Result, Ok, Err, ⊤}
 use Rattle.handle.specs.declared.Refusal.{Refusal}
 
 module _ (s t : List ℕ) (r : Result ⊤ Refusal) (cap top : ℕ) (e : (t, r) ≡ lay_out_words s cap top) where
-  pub laid_out : GoodLayout (length s) cap top → (r ≡ (Ok tt)) × Fresh s t cap top × Holds t (fresh cap top)
+  pub laid_out : GoodLayout (length s) cap top → (r ≡ Ok tt) × Fresh s t cap top × Holds t (fresh cap top)
   laid_out g =
       let u : ◌≡◌ {A = List ℕ × Result ⊤ Refusal} (t, r) (laid_words s cap top, Ok tt) = e ∙ lays-out s cap top g in
       let f : Fresh s t cap top = subst⁻¹ (λ (x : List ℕ). Fresh s x cap top) (ap (λ x. x.0) u) (laid-is s cap top g.room) in

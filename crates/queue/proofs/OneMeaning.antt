@@ -109,7 +109,7 @@ entry-one x y f g e v =
     let k = sym (stored_undone x.key.0 f) ∙ ap signed e ∙ stored_undone y.key.0 g in
     λ i. record { key = record { 0 = k i }; value = v i }
 
-abbrev pub FitsRemoved : (Result X.Removed Refusal) → Type 0
+abbrev pub FitsRemoved : Result X.Removed Refusal → Type 0
 FitsRemoved (Ok (X.TheVariants.Entry x)) = Fits x
 FitsRemoved (Ok (X.TheVariants.GenerationOverflow x)) = Fits x
 FitsRemoved (Err n) = Unit {0}
@@ -131,7 +131,7 @@ removed-one (Err m) (Ok (X.TheVariants.Entry y)) f g e = apart cc
 removed-one (Err m) (Ok (X.TheVariants.GenerationOverflow y)) f g e = apart cc
 removed-one (Err m) (Err n) f g e = ap Err (refusal_one m n cc)
 
-abbrev pub FitsRead : (Result Entry Refusal) → Type 0
+abbrev pub FitsRead : Result Entry Refusal → Type 0
 FitsRead (Ok x) = Fits x
 FitsRead (Err n) = Unit {0}
 

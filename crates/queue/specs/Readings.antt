@@ -10,19 +10,19 @@ use Rattle.std.specs.Prelude.{Result, Ok, Err, Option, Some, None, ⊤}
 use Rattle.handle.specs.declared.Refusal.{Refusal}
 use Rattle.queue.specs.declared.cursor.Cursor.{Cursor}
 
-abbrev pub laid_means : (Result ⊤ Refusal) → Laid
+abbrev pub laid_means : Result ⊤ Refusal → Laid
 laid_means (Ok u) = laid
 laid_means (Err r) = not_laid (refusal_number r)
 
 -- "the equal entry's handle, or the last node's handle and the side, or Empty, each with the count"
-abbrev pub search_means : (Result Searched Refusal) → SearchAnswer
+abbrev pub search_means : Result Searched Refusal → SearchAnswer
 search_means (Ok (Q.Equal h n)) = equal_at (plain h) n
 search_means (Ok (Q.Beside h side n)) = beside (plain h) (side_means side) n
 search_means (Ok (Q.Empty n)) = no_entry n
 search_means (Err r) = not_found (refusal_number r)
 
 -- "is handed back moved, by handle; at an end the answer is End"
-abbrev pub moved_means : (Result (Option Cursor) Refusal) → Stepped
+abbrev pub moved_means : Result (Option Cursor) Refusal → Stepped
 moved_means (Ok (Some c)) = stands (plain c.handle)
 moved_means (Ok None) = at_end
 moved_means (Err r) = not_stepped (refusal_number r)

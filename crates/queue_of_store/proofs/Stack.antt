@@ -24,7 +24,7 @@ use Rattle.std.specs.Prelude.{Ok, Err}
 use Rattle.handle.specs.declared.Refusal.TheVariants.{NotWithinCapacity}
 
 -- "no slot is free"
-pub peek_none : (s : List ℕ) (cap : ℕ) → FreeStack s cap [] → peek_slot s cap ≡ (Err NotWithinCapacity)
+pub peek_none : (s : List ℕ) (cap : ℕ) → FreeStack s cap [] → peek_slot s cap ≡ Err NotWithinCapacity
 unfolding peek_slot peek_from
 peek_none s cap w = rw w.height
 

@@ -46,8 +46,8 @@ released_to {g} (yes k) u cap i h = pushed u cap i h g
 released_to (no k) u cap i h = blank_of u cap i no_slot
 
 abbrev pub released_as : {g top : ℕ} → Dec (g < top) → Result F.Freed Refusal
-released_as (yes k) = (Ok F.TheVariants.Again)
-released_as (no k) = (Ok F.TheVariants.GenerationOverflow)
+released_as (yes k) = Ok F.TheVariants.Again
+released_as (no k) = Ok F.TheVariants.GenerationOverflow
 
 module _ (s u : List ℕ) (q : Queue) (d : Separate q) (l : List Entry) (x : Entry) (m : List Entry) (old : entries q ≡ l ++ (x ∷ m)) (t : Tree)
     (now : inorder t ≡ l ++ m) (k : Out s u q l x m t) where

@@ -9,12 +9,12 @@ use Rattle.handle.specs.declared.Refusal.{Refusal}
 use Rattle.handle.specs.declared.Entry.{Entry}
 
 -- "At the top generation the entry is still removed and returned, with the note GenerationOverflow"
-abbrev pub removed_means : (Result D.Removed Refusal) → Removed
+abbrev pub removed_means : Result D.Removed Refusal → Removed
 removed_means (Ok (D.TheVariants.Entry x)) = removed (stored x.key.0) x.value no_note
 removed_means (Ok (D.TheVariants.GenerationOverflow x)) = removed (stored x.key.0) x.value generation_overflow
 removed_means (Err n) = not_removed (refusal_number n)
 
 -- "Reading and removal answer key and value."
-abbrev pub read_means : (Result Entry Refusal) → Read
+abbrev pub read_means : Result Entry Refusal → Read
 read_means (Ok x) = reads (stored x.key.0) x.value
 read_means (Err n) = not_read (refusal_number n)

@@ -28,7 +28,7 @@ use Rattle.sound.proofs.Rows.{Joined, joined-both}
 use Rattle.std.specs.Prelude.{Option, Some, None}
 
 -- the slot of a walk's answer, one more than it; 0 where it broke off
-abbrev met : (Option ℕ) → ℕ
+abbrev met : Option ℕ → ℕ
 met (Some x) = suc x
 met None = 0
 

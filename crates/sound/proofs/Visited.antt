@@ -86,10 +86,10 @@ module _ (s : List ℕ) (cap : ℕ) (few : cap ≤ no_slot) where
         r : ℕ
         r = visits n s cap top p (field s cap p RIGHT) p
 
-        near : (Option ℕ)
+        near : Option ℕ
         near = walk_model n s cap top p (field s cap p LEFT) q
 
-        far : (Option ℕ)
+        far : Option ℕ
         far = walk_model n s cap top p (field s cap p RIGHT) p
 
         Whole : Type 0

@@ -46,26 +46,26 @@ handle_told code h n = (code, row h.slot.0 h.generation.0 n)
 abbrev pub entry_told : ℕ → Entry → Told
 entry_told code e = (code, row (stored e.key.0) e.value 0)
 
-abbrev pub laid_out_told : (Result ⊤ Refusal) → ℕ
+abbrev pub laid_out_told : Result ⊤ Refusal → ℕ
 laid_out_told (Ok u) = 16
 laid_out_told (Err r) = refusal_number r
 
-abbrev pub inserted_told : (Result I.Inserted Refusal) → Told
+abbrev pub inserted_told : Result I.Inserted Refusal → Told
 inserted_told (Ok (I.TheVariants.New h)) = handle_told 16 h 0
 inserted_told (Ok (I.TheVariants.Replacing h old)) = handle_told 17 h old
 inserted_told (Err r) = refused_told r
 
-abbrev pub ahead_told : (Result A.Ahead Refusal) → Told
+abbrev pub ahead_told : Result A.Ahead Refusal → Told
 ahead_told (Ok (A.TheVariants.New h)) = handle_told 16 h 0
 ahead_told (Ok (A.TheVariants.Replacing h)) = handle_told 17 h 0
 ahead_told (Err r) = refused_told r
 
-abbrev pub removed_told : (Result X.Removed Refusal) → Told
+abbrev pub removed_told : Result X.Removed Refusal → Told
 removed_told (Ok (X.TheVariants.Entry e)) = entry_told 16 e
 removed_told (Ok (X.TheVariants.GenerationOverflow e)) = entry_told 17 e
 removed_told (Err r) = refused_told r
 
-abbrev pub reading_told : (Result Entry Refusal) → Told
+abbrev pub reading_told : Result Entry Refusal → Told
 reading_told (Ok e) = entry_told 16 e
 reading_told (Err r) = refused_told r
 
@@ -74,13 +74,13 @@ side_code S.Less = 17
 side_code S.Equal = 16
 side_code S.Greater = 18
 
-abbrev pub searched_told : (Result Q.Searched Refusal) → Told
+abbrev pub searched_told : Result Q.Searched Refusal → Told
 searched_told (Ok (Q.TheVariants.Equal h n)) = handle_told 16 h n
 searched_told (Ok (Q.TheVariants.Beside h side n)) = handle_told (side_code side) h n
 searched_told (Ok (Q.TheVariants.Empty n)) = (19, row 0 0 n)
 searched_told (Err r) = refused_told r
 
-abbrev pub moved_told : (Result (Option Cursor) Refusal) → Told
+abbrev pub moved_told : Result (Option Cursor) Refusal → Told
 moved_told (Ok (Some c)) = handle_told 16 c.handle 0
 moved_told (Ok None) = (17, row 0 0 0)
 moved_told (Err r) = refused_told r

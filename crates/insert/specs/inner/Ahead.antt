@@ -15,7 +15,7 @@ use Rattle.handle.specs.declared.Ahead.TheVariants.{New, Replacing}
 use Rattle.handle.specs.declared.Refusal.{Refusal}
 
 -- by the slot that would be taken
-abbrev pub new_as : (Result Handle Refusal) → Result Ahead Refusal
+abbrev pub new_as : Result Handle Refusal → Result Ahead Refusal
 new_as (Ok h) = Ok (New h)
 new_as (Err n) = Err n
 

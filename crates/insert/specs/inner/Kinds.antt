@@ -24,7 +24,7 @@ PreparedIn cap (Ok (Replace p)) = p < cap
 PreparedIn cap (Err n) = Unit {0}
 
 -- "Equal: the value is replaced [..] Otherwise a new entry is placed there."
-abbrev pub as_found : (Result Found Refusal) → Result Prepared Refusal
+abbrev pub as_found : Result Found Refusal → Result Prepared Refusal
 as_found (Ok (F.TheVariants.Equal p n)) = Ok (Replace p)
 as_found (Ok (F.TheVariants.Beside p d n)) = Ok (Beside p d)
 as_found (Ok F.TheVariants.Empty) = Ok Alone

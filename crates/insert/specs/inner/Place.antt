@@ -57,7 +57,7 @@ beside_as cap p d key value s (Err n) = (s, Err n)
 unfoldable pub placed_beside : List ℕ → ℕ → ℕ → ℕ → ℤ → ℕ → List ℕ × Result Inserted Refusal
 placed_beside s cap p d key value = let x = take_slot s cap in beside_as cap p d key value x.0 x.1
 
--- "Equal: the value is value_replaced, the old one returned, the handle kept, no slot used."
+-- "Equal: the value is replaced, the old one returned, the handle kept, no slot used."
 unfoldable pub value_replaced : List ℕ → ℕ → ℕ → ℕ → List ℕ × Result Inserted Refusal
 value_replaced s cap i value = (put s cap i VALUE value, Ok (Replacing (handle_with i (field s cap i GENERATION)) (field s cap i VALUE)))
 
@@ -77,7 +77,7 @@ unfoldable pub manual_inserted : List ℕ → ℕ → Handle → Side → ℤ �
 manual_inserted s cap h side key value = applied s cap (prepared_manual s cap h side (stored key)) key value
 
 -- what a look-ahead says of an answer
-abbrev pub as_ahead : (Result Inserted Refusal) → Result Ahead Refusal
+abbrev pub as_ahead : Result Inserted Refusal → Result Ahead Refusal
 as_ahead (Ok (New h)) = Ok (A.TheVariants.New h)
 as_ahead (Ok (Replacing h old)) = Ok (A.TheVariants.Replacing h)
 as_ahead (Err r) = Err r

@@ -15,7 +15,7 @@ use Rattle.handle.specs.declared.Refusal.{Refusal}
 abbrev pub cursor_at : Handle → Cursor
 cursor_at h = record { handle = h }
 
-abbrev pub moved_to : (Result (Option Handle) Refusal) → Result (Option Cursor) Refusal
+abbrev pub moved_to : Result (Option Handle) Refusal → Result (Option Cursor) Refusal
 moved_to (Ok (Some h)) = Ok (Some (cursor_at h))
 moved_to (Ok None) = Ok None
 moved_to (Err n) = Err n

@@ -35,7 +35,7 @@ found_means s cap (Ok (F.TheVariants.Beside p d n)) = beside (handle_in_slot s c
 found_means s cap (Ok F.TheVariants.Empty) = no_entry 0
 found_means s cap (Err n) = not_found (refusal_number n)
 
-abbrev pub step_means : (Result (Option H.Handle) Refusal) → Stepped
+abbrev pub step_means : Result (Option H.Handle) Refusal → Stepped
 step_means (Ok (Some h)) = stands (plain h)
 step_means (Ok None) = at_end
 step_means (Err n) = not_stepped (refusal_number n)

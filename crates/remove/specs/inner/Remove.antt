@@ -21,7 +21,7 @@ unfoldable pub let_go : List ℕ → ℕ → ℕ → List ℕ × Result Freed Re
 let_go s cap i = free_slot (unlink_slot s cap i).0 cap i
 
 -- the answer for the entry, by how its slot was freed
-abbrev pub noted : (Result Freed Refusal) → Entry → Result Removed Refusal
+abbrev pub noted : Result Freed Refusal → Entry → Result Removed Refusal
 noted (Ok F.TheVariants.Again) x = Ok (D.TheVariants.Entry x)
 noted (Ok F.TheVariants.GenerationOverflow) x = Ok (D.TheVariants.GenerationOverflow x)
 noted (Err n) x = Err n

@@ -1,5 +1,5 @@
 -- Taking a node out of the tree, as a function of the store, for any words; the answer is whether it went as on a sound store.
--- Document 01: "A node with a child is node_replaced by its chain prev, or by its next if it has rank 2 and no left child, or no prev; the
+-- Document 01: "A node with a child is replaced by its chain prev, or by its next if it has rank 2 and no left child, or no prev; the
 -- replacement takes its rank and place. [..] Then climb from the parent n1 of the emptied place, its child there being n0. If that parent
 -- is left childless it gets rank 1 and the climb goes one up."
 use Rattle.std.specs.Prelude.{ℕ, Bool, false, List, leb, eqb, Result, Ok, Err, ⊤}

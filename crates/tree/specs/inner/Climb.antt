@@ -11,7 +11,7 @@ Standing cap (Ok Done) = Unit {0}
 Standing cap (Err n) = Unit {0}
 
 -- go on, or leave the loop
-abbrev pub on_climbed : (Result Climbed Refusal) → (ℕ → ℕ → List ℕ × Result ⊤ Refusal) → List ℕ → List ℕ × Result ⊤ Refusal
+abbrev pub on_climbed : Result Climbed Refusal → (ℕ → ℕ → List ℕ × Result ⊤ Refusal) → List ℕ → List ℕ × Result ⊤ Refusal
 on_climbed (Ok (Up p d)) go s = go p d
 on_climbed (Ok Done) go s = (s, Ok tt)
 on_climbed (Err n) go s = (s, Err n)
