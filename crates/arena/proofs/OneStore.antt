@@ -10,7 +10,7 @@ use Rattle.arena.specs.Words.{need, head_words, fields, word_at, field, head}
 use Rattle.arena.specs.inner.Only.{Only, NoField, NoHead}
 use Rattle.arena.proofs.Places.{place-near, place-far}
 
--- the slot and the field whose word_at is k
+-- the slot and the field whose place is k
 record Named (cap k : ℕ) : Type 0 where
   slot : ℕ
   which : ℕ

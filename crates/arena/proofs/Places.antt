@@ -1,4 +1,4 @@
--- Where each field stands, and that no two fields stand at one word_at.
+-- Where each field stands, and that no two fields stand at one place.
 use Prim.Native.Nat.{ℕ, ◌+◌, ◌-◌, ◌*◌, ◌≤◌, ◌<◌}
 use mathlib.Core.Path.{◌≡◌, sym, ◌∙◌}
 use native.Mathlib.Omega.{arith}

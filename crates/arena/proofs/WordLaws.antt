@@ -1,5 +1,5 @@
 -- The laws of the words: all that anything above knows of `field`, `put`, `head` and `put_head`.
--- A write is seen in its own word_at and nowhere else, and keeps the length. No law shows where a field stands.
+-- A write is seen in its own place and nowhere else, and keeps the length. No law shows where a field stands.
 use Prim.Native.Nat.{ℕ, ◌<◌, ◌≤◌}
 use mathlib.Core.Path.{◌≡◌}
 use mathlib.Core.List.{List}
@@ -44,7 +44,7 @@ module _ (s : List ℕ) (cap i f v : ℕ) (hi : i < cap) (hf : f < fields) where
   field_off j g hj hg ne =
       get_or-set_other s (word_at cap i f) (word_at cap j g) v 0 (λ e. let p = place-one cap j g i f hj hi hg hf e in ne p.1)
 
-  -- another word_at, be it of another slot or another field
+  -- another place, be it of another slot or another field
   pub field-other : (j g : ℕ) → j < cap → g < fields → ((j ≡ i) × (g ≡ f) → ⊥) → field (put s cap i f v) cap j g ≡ field s cap j g
   field-other j g hj hg ne = go (ℕ_discrete g f)
     where

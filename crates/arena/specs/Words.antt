@@ -74,7 +74,7 @@ Long s cap = need cap ≤ length s
 abbrev pub Room : List ℕ → ℕ → Type 0
 Room s cap = Long s cap × (cap ≤ no_slot)
 
--- the word_at of the field f of the slot i: the four that a search reads stand together
+-- the place of the field f of the slot i: the four that a search reads stand together
 unfoldable pub word_at : ℕ → ℕ → ℕ → ℕ
 word_at cap i f = ifte (ltb f 4) (head_words + i * 4 + f) (head_words + cap * 4 + i * 6 + (f - 4))
 
