@@ -3,7 +3,6 @@ use Prim.Native.Nat.{ℕ, ◌<◌, ◌≤◌}
 use mathlib.Core.Path.{◌≡◌, sym, ◌∙◌}
 use mathlib.Core.Bool.{Bool, true, false}
 use mathlib.Core.List.{List}
-use native.Mathlib.Omega.{arith}
 use lib.ListN.{length}
 use borrow.Author.Tests.{le-ltb, leb-false, ltb-false}
 use Rattle.handle.specs.declared.Handle.{Handle}
@@ -11,7 +10,7 @@ use Rattle.handle.specs.declared.Refusal.TheVariants.{BadLayout}
 use Rattle.handle.specs.Numbers.{limit, top_limit}
 use Rattle.handle.proofs.Limits.{limit-fits}
 use Rattle.arena.specs.Words.{head_words, need, field, head, GENERATION, CAPACITY, TOP, HEIGHT}
-use Rattle.arena.specs.Header.{header_of, Passing}
+use Rattle.arena.specs.Header.{header_of}
 use Rattle.arena.specs.Laying.{GoodLayout}
 use Rattle.arena.specs.inner.Laying.{good_layout, lay_out_words}
 use Rattle.arena.specs.inner.Slots.{PeekedIn, handle_with, peek_from, peek_slot, free_with, free_slot}
@@ -26,9 +25,6 @@ module _ (s : List ℕ) (cap : ℕ) (e : cap ≡ head s CAPACITY) (long : head_w
   pub header-passes : need cap ≤ length s → Ok cap ≡ header_of s
   unfolding header_of
   header-passes h = rw (← e, le-ltb (length s) head_words long, le-ltb cap 1 some, le-ltb limit cap few, le-ltb (length s) (need cap) h)
-
-  pub passing : need cap ≤ length s → Passing s cap
-  passing h = record { capacity = sym e; some = some; few = few; room = (h, (let fits = limit-fits in omega arith)) }
 
 module _ (s : List ℕ) (cap : ℕ) where
   pub peek_reads : (x : Result Handle Refusal) (h : ℕ) → h ≡ head s HEIGHT → x ≡ peek_from s cap h → x ≡ peek_slot s cap
