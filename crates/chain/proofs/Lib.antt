@@ -1,4 +1,3 @@
-pub mod StepReads
 pub mod Hooks
 pub mod LinkLaws
 pub mod StepLaws

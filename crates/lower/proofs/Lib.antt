@@ -1,3 +1,2 @@
-pub mod ClimbReads
 pub mod ClimbLoop
 pub mod LowerLeaves

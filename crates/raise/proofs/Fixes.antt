@@ -30,10 +30,6 @@ unfolding fix_turn
 fix_reads s cap p0 p1 p2 d01 d12 x r1 r2 p3 s1 rs1 e₁ e₂ e₃ e₄ e₅ e = rw (← e₁, ← e₂, ← e₃, ← e₄, ← e₅) e
 
 module _ (s : List ℕ) (cap d01 d12 : ℕ) (t : Turn) (r1 r2 rs1 : ℕ) where
-  pub fix_low : r1 < r2 → ◌≡◌ {A = List ℕ × Result Climbed Refusal} (s, Ok Done) (fix_with s cap d01 d12 t r1 r2 rs1)
-  unfolding fix_with
-  fix_low h = rw (lt-ltb r1 r2 h)
-
   module _ (over : r2 ≤ r1) (low : r1 < budget) (low₁ : rs1 < budget) (gap : rs1 + 1 ≡ r2 → ⊥) (x : List ℕ) where
     pub fix_same : d01 ≡ d12 → x ≡ turned_same s cap d01 t → ◌≡◌ {A = List ℕ × Result Climbed Refusal} (x, Ok Done) (fix_with s cap d01 d12 t r1 r2 rs1)
     unfolding fix_with
