@@ -33,6 +33,3 @@ module _ (s : List ℕ) (h : ℕ) (r : List ℕ) (inv : zeroed (head_words - h) 
   pub zero_turn : h < head_words → (t : List ℕ) → t ≡ put_head s h 0 → zeroed (head_words - (h + 1)) t ≡ r
   unfolding zeroed
   zero_turn l t e = ap (zeroed (head_words - (h + 1))) (e ∙ ap (λ x. put_head s x 0) (omega (arith, back head_words h l))) ∙ (rw (left head_words h l) at inv)
-
-pub slots-start : (s : List ℕ) (cap : ℕ) → lay_slots (cap - 0) s cap ≡ lay_slots cap s cap
-slots-start s cap = let e : cap - 0 ≡ cap = omega arith in rw e

@@ -4,7 +4,6 @@ use Prim.Native.Nat.{ℕ, ◌≤◌, ◌<◌}
 use mathlib.Core.Path.{◌≡◌, refl}
 use native.Mathlib.Omega.{arith}
 use mathlib.Core.Bool.{Bool, true, false}
-use mathlib.Core.List.{List}
 use lib.Dec.{ltb, leb, eqb}
 use borrow.Author.Tests.{lt-ltb, le-ltb, eq-eqb, ne_eqb, le-leb, lt-leb}
 use Rattle.arena.specs.Branch.{ifte}
@@ -56,10 +55,6 @@ module _ (a b a' : ℕ) (e : a ≡ a') where
 
 pub ruleset paths = (if_true, if_false, lt-ltb, le-ltb, eq-eqb, ne_eqb, le-leb, lt-leb, lt_r, lt_l, le_r, le_l, eq_l, ne_l, leb_r, leb_l, nleb_r, nleb_l)
 
--- a function that writes and answers: the store is the model's
-pub wrote : {A : Type 0} (x y : List ℕ) (a : A) → x ≡ y → ◌≡◌ {A = List ℕ × A} (x, a) (y, a)
-wrote x y a e = rw e
-
 -- a chain of refusals that came to yes: no test held
 pub no_refusal : (t b : Bool) → ifte t false b ≡ true → (t ≡ false) × (b ≡ true)
 no_refusal true b e = let z : ◌≡◌ {A = ℕ} 0 1 = cc in absurd (omega arith)
@@ -74,7 +69,3 @@ no_refusals a b c d e t =
     let w = no_refusal c _ v.1 in
     let x = no_refusal d _ w.1 in
     (u.0, v.0, w.0, x.0, (no_refusal e _ x.1).0)
-
--- what a test function answered
-pub tested : {a : Bool} (t b : Bool) → t ≡ b → t ≡ a → b ≡ a
-tested t b e f = cc

@@ -3,17 +3,16 @@ use Prim.Native.Nat.{ℕ, ◌<◌, ◌≤◌}
 use mathlib.Core.Path.{◌≡◌, sym, ◌∙◌}
 use mathlib.Core.Bool.{Bool, true, false}
 use mathlib.Core.List.{List}
-use native.Mathlib.Omega.{arith}
 use lib.ListN.{length}
-use borrow.Author.Tests.{lt-ltb, le-ltb, leb-false, ltb-false}
+use borrow.Author.Tests.{le-ltb, leb-false, ltb-false}
 use Rattle.handle.specs.declared.Handle.{Handle}
-use Rattle.handle.specs.declared.Refusal.TheVariants.{BadLayout, NotSound}
+use Rattle.handle.specs.declared.Refusal.TheVariants.{BadLayout}
 use Rattle.handle.specs.Numbers.{limit, top_limit}
 use Rattle.handle.proofs.Limits.{limit-fits}
 use Rattle.arena.specs.Words.{head_words, need, field, head, GENERATION, CAPACITY, TOP, HEIGHT}
-use Rattle.arena.specs.Header.{header_of, Passing}
+use Rattle.arena.specs.Header.{header_of}
 use Rattle.arena.specs.Laying.{GoodLayout}
-use Rattle.arena.specs.inner.Laying.{good_layout, fresh_head, lay_slots, laid_words, lay_out_words}
+use Rattle.arena.specs.inner.Laying.{good_layout, lay_out_words}
 use Rattle.arena.specs.inner.Slots.{PeekedIn, handle_with, peek_from, peek_slot, free_with, free_slot}
 use Rattle.arena.specs.inner.Entries.{is_live}
 use Rattle.arena.proofs.Paths.{no_refusal, no_refusals}
@@ -23,16 +22,9 @@ use Rattle.handle.specs.declared.Refusal.{Refusal}
 
 -- the header's capacity, as read
 module _ (s : List ℕ) (cap : ℕ) (e : cap ≡ head s CAPACITY) (long : head_words ≤ length s) (some : 1 ≤ cap) (few : cap ≤ limit) where
-  pub header_short : length s < need cap → Err NotSound ≡ header_of s
-  unfolding header_of
-  header_short h = rw (← e, le-ltb (length s) head_words long, le-ltb cap 1 some, le-ltb limit cap few, lt-ltb (length s) (need cap) h)
-
   pub header-passes : need cap ≤ length s → Ok cap ≡ header_of s
   unfolding header_of
   header-passes h = rw (← e, le-ltb (length s) head_words long, le-ltb cap 1 some, le-ltb limit cap few, le-ltb (length s) (need cap) h)
-
-  pub passing : need cap ≤ length s → Passing s cap
-  passing h = record { capacity = sym e; some = some; few = few; room = (h, (let fits = limit-fits in omega arith)) }
 
 module _ (s : List ℕ) (cap : ℕ) where
   pub peek_reads : (x : Result Handle Refusal) (h : ℕ) → h ≡ head s HEIGHT → x ≡ peek_from s cap h → x ≡ peek_slot s cap
@@ -64,6 +56,9 @@ good-yes len cap top t =
       room = ltb-false len (need cap) n.4;
     }
 
+-- what laying out takes from its test, and from the limit
+pub ruleset laying = (limit-fits, good-yes)
+
 pub good-is : (len cap top : ℕ) → GoodLayout len cap top → good_layout len cap top ≡ true
 unfolding good_layout
 good-is len cap top g =
@@ -71,10 +66,6 @@ good-is len cap top g =
     rw (le-ltb cap 1 r.capacity-from, le-ltb limit cap r.capacity-to, le-ltb top 1 r.top_from, le-ltb top_limit top r.top_to, le-ltb len (need cap) g.room)
 
 module _ (s : List ℕ) (cap top : ℕ) where
-  pub lay_done : good_layout (length s) cap top ≡ true → (t u : List ℕ) → t ≡ fresh_head s cap top → u ≡ lay_slots cap t cap → ◌≡◌ {A = List ℕ × Result ⊤ Refusal} (u, Ok tt) (lay_out_words s cap top)
-  unfolding lay_out_words laid_words
-  lay_done g t u e f = rw (g, f, e)
-
   pub lay_refused : good_layout (length s) cap top ≡ false → ◌≡◌ {A = List ℕ × Result ⊤ Refusal} (s, Err BadLayout) (lay_out_words s cap top)
   unfolding lay_out_words
   lay_refused g = rw g

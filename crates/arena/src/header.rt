@@ -8,6 +8,7 @@ use crate::words::{CAPACITY, FIELDS, HEAD_WORDS};
 use handle::{LIMIT, Refusal};
 
 // The capacity of a store whose header passes, else NotSound.
+#[tactic(auto, unfolding(crate::specs::Header::header_of, handle::specs::Numbers::limit))]
 pub fn test(s: &[u64]) -> Result<u64, Refusal>
     ensures value { result ≡ header_of s.now }
     ensures says { Says s.now result }

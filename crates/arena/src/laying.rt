@@ -12,6 +12,7 @@ use crate::words::{
 use handle::{Handle, LIMIT, Refusal, TOP_LIMIT};
 
 // The links and the rank of a slot without an entry. BACK holds b.
+#[tactic(auto, unfolding(crate::specs::inner::Laying::unlinked))]
 fn unlink(s: &mut [u64], cap: u64, i: u64, b: u64)
     requires room { Room s.old cap }
     requires i_lt_cap { i < cap }
@@ -26,6 +27,7 @@ fn unlink(s: &mut [u64], cap: u64, i: u64, b: u64)
 }
 
 // A slot without an entry: every field but the generation holds its fixed value, and BACK holds b.
+#[tactic(auto, unfolding(crate::specs::inner::Laying::blank_of))]
 pub fn blank(s: &mut [u64], cap: u64, i: u64, b: u64)
     requires room { Room s.old cap }
     requires i_lt_cap { i < cap }
@@ -37,6 +39,7 @@ pub fn blank(s: &mut [u64], cap: u64, i: u64, b: u64)
 }
 
 // The slot i as it is laid out: free, in its first generation, and handed out after those below it.
+#[tactic(auto, unfolding(crate::specs::inner::Laying::fresh_slot))]
 fn fresh_slot(s: &mut [u64], cap: u64, i: u64)
     requires room { Room s.old cap }
     requires i_lt_cap { i < cap }
@@ -66,6 +69,7 @@ fn zero_header(s: &mut [u64])
     }
 }
 
+#[tactic(auto, unfolding(crate::specs::inner::Laying::fresh_head))]
 fn fresh_header(s: &mut [u64], cap: u64, top: u64)
     requires { Long s.old 0 }
     ensures { s.new ≡ fresh_head s.old cap top }
@@ -80,6 +84,7 @@ fn fresh_header(s: &mut [u64], cap: u64, top: u64)
 }
 
 // Whether a store of so many numbers can be laid out so.
+#[tactic(auto, unfolding(crate::specs::inner::Laying::good_layout, handle::specs::Numbers::limit, handle::specs::Numbers::top_limit))]
 fn good_layout(len: u64, capacity: u64, top: u64) -> bool
     ensures { result ≡ good_layout len capacity top }
 {
@@ -101,6 +106,7 @@ fn good_layout(len: u64, capacity: u64, top: u64) -> bool
     true
 }
 
+#[tactic(auto, using(crate::proofs::SlotReads::laying), unfolding(crate::specs::inner::Laying::lay_out_words, crate::specs::inner::Laying::laid_words))]
 pub fn lay_out(s: &mut [u64], capacity: u64, top: u64) -> Result<(), Refusal>
     ensures { (s.new, result) ≡ lay_out_words s.old capacity top }
 {

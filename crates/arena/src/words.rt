@@ -51,6 +51,7 @@ pub const LAST: u64 = 4;
 pub const ROOT: u64 = 5;
 
 // What the field f of the slot i holds, in a store of the given capacity.
+#[tactic(auto, unfolding(crate::specs::Words::field, crate::specs::Words::word_at))]
 pub fn field(s: &[u64], cap: u64, i: u64, f: u64) -> u64
     requires room { Room s.now cap }
     requires i_lt_cap { i < cap }
@@ -64,6 +65,7 @@ pub fn field(s: &[u64], cap: u64, i: u64, f: u64) -> u64
 }
 
 // The field f of the slot i becomes v.
+#[tactic(auto, unfolding(crate::specs::Words::put, crate::specs::Words::word_at))]
 pub fn put(s: &mut [u64], cap: u64, i: u64, f: u64, v: u64)
     requires room { Room s.old cap }
     requires i_lt_cap { i < cap }
@@ -78,6 +80,7 @@ pub fn put(s: &mut [u64], cap: u64, i: u64, f: u64, v: u64)
 }
 
 // What the word h of the header holds.
+#[tactic(auto, unfolding(crate::specs::Words::head))]
 pub fn head(s: &[u64], h: u64) -> u64
     requires long { Long s.now 0 }
     requires h_lt_head_words { h < head_words }
@@ -87,6 +90,7 @@ pub fn head(s: &[u64], h: u64) -> u64
 }
 
 // The word h of the header becomes v.
+#[tactic(auto, unfolding(crate::specs::Words::put_head))]
 pub fn put_head(s: &mut [u64], h: u64, v: u64)
     requires long { Long s.old 0 }
     requires h_lt_head_words { h < head_words }

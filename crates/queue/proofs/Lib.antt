@@ -1,4 +1,3 @@
-pub mod CallReads
 pub mod Looked
 pub mod Keeping
 pub mod LayingOut

@@ -26,13 +26,9 @@ use Rattle.queue.specs.inner.Taking.{remove_call}
 use Rattle.queue.specs.inner.Looking.{search_call, read_call}
 use Rattle.queue.specs.inner.Moving.{start_call, stand_call, step_call}
 use Rattle.handle.specs.declared.Inserted.{Inserted}
-use Rattle.handle.specs.declared.Inserted.TheVariants as I
 use Rattle.handle.specs.declared.Ahead.{Ahead}
-use Rattle.handle.specs.declared.Ahead.TheVariants as A
 use Rattle.handle.specs.declared.Removed.{Removed}
-use Rattle.handle.specs.declared.Removed.TheVariants as X
 use Rattle.queue.specs.declared.looking.Searched.{Searched}
-use Rattle.queue.specs.declared.looking.Searched.TheVariants as S
 use Rattle.handle.specs.declared.Refusal.{Refusal}
 use Rattle.handle.specs.declared.Entry.{Entry}
 use Rattle.queue.specs.declared.cursor.Cursor.{Cursor}

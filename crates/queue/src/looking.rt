@@ -1,10 +1,10 @@
 // Search, reading and the check: they look and change nothing.
 // From the Rust: find_similar_key of ord/find.rs, and reading by pointer.
-ghost use Rattle.std.specs.Prelude.{◌≡◌, ◌<◌};
-ghost use Rattle.arena.specs.Words.{Room};
+ghost use Rattle.std.specs.Prelude.{◌≡◌};
 ghost use Rattle.queue.specs.Promised.{CheckPromise, SearchPromise, ReadPromise};
 ghost use Rattle.queue.specs.inner.Looking.{searched};
 
+use arena::store::View;
 use arena::{header, keys, slots};
 use find::Found;
 use handle::{Entry, Handle, Key, Refusal, Side};
@@ -20,15 +20,14 @@ pub enum Searched {
 }
 
 #[tactic(auto, unfolding(crate::specs::inner::Looking::searched, crate::specs::inner::Looking::handle_at))]
-fn search_in(s: &[u64], cap: u64, k: u64) -> Result<Searched, Refusal>
-    requires { Room s.now cap }
-    ensures { result ≡ searched s.now cap k }
+fn search_in(s: View<'_>, k: u64) -> Result<Searched, Refusal>
+    ensures { result ≡ searched s.entry.words.now s.entry.cap k }
 {
-    match find::seek(s, cap, k)? {
-        Found::Equal(p, n) => Ok(Searched::Equal(slots::handle_at(s, cap, p), n)),
+    match find::seek(s, k)? {
+        Found::Equal(p, n) => Ok(Searched::Equal(slots::handle_at(s, p), n)),
         Found::Beside(p, d, n) => {
-            let h = slots::handle_at(s, cap, p);
-            if d == 0 {
+            let h = slots::handle_at(s, p);
+            if d.number == 0 {
                 return Ok(Searched::Beside(h, Side::Less, n));
             }
             Ok(Searched::Beside(h, Side::Greater, n))
@@ -41,7 +40,7 @@ pub fn search(s: &[u64], key: Key) -> Result<Searched, Refusal>
     ensures { SearchPromise s.now key.0 result }
 {
     let cap = header::test(s)?;
-    search_in(s, cap, keys::stored_key(key))
+    search_in(View { words: s, cap }, keys::stored_key(key))
 }
 
 // Whether the store is sound.
@@ -56,5 +55,5 @@ pub fn read(s: &[u64], h: Handle) -> Result<Entry, Refusal>
     ensures { ReadPromise s.now h result }
 {
     let cap = header::test(s)?;
-    reading::read(s, cap, h)
+    reading::read(View { words: s, cap }, h)
 }

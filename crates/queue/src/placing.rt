@@ -2,12 +2,14 @@
 // From the Rust: OrdInsertKind and the entry of ord/insert.rs.
 ghost use Rattle.queue.specs.Promised.{NeedPromise, LayOutPromise, InsertPromise, EmptyPromise, ManualPromise, AheadPromise, AheadEmptyPromise, AheadManualPromise};
 
+use arena::store::{Store, View};
 use arena::words::{FIELDS, HEAD_WORDS};
 use arena::{header, laying};
 use handle::{Ahead, Handle, Inserted, Key, LIMIT, Refusal, Side};
 use insert::{ahead, place};
 
 // How many numbers a store of that capacity takes.
+#[tactic(auto, using(crate::proofs::Promising::needs_none, crate::proofs::Promising::needs_beyond, crate::proofs::Promising::needs_told), unfolding(handle::specs::Numbers::limit))]
 pub fn numbers_needed(capacity: u64) -> Result<u64, Refusal>
     ensures { NeedPromise capacity result }
 {
@@ -32,7 +34,7 @@ pub fn insert(s: &mut [u64], key: Key, value: u64) -> Result<Inserted, Refusal>
     ensures { InsertPromise s.old s.new key.0 value result }
 {
     let cap = header::test(s)?;
-    place::insert_normal(s, cap, key, value)
+    place::insert_normal(&mut Store::new(s, cap), key, value)
 }
 
 // Insertion into an empty queue only.
@@ -40,7 +42,7 @@ pub fn insert_empty(s: &mut [u64], key: Key, value: u64) -> Result<Inserted, Ref
     ensures { EmptyPromise s.old s.new key.0 value result }
 {
     let cap = header::test(s)?;
-    place::insert_empty(s, cap, key, value)
+    place::insert_empty(&mut Store::new(s, cap), key, value)
 }
 
 // Insertion beside the entry that h names, on the given side, or in its place.
@@ -54,7 +56,7 @@ pub fn insert_manual(
     ensures { ManualPromise s.old s.new h side key.0 value result }
 {
     let cap = header::test(s)?;
-    place::insert_manual(s, cap, h, side, key, value)
+    place::insert_manual(&mut Store::new(s, cap), h, side, key, value)
 }
 
 // What `insert` would answer next, with nothing changed.
@@ -62,7 +64,7 @@ pub fn look_ahead(s: &[u64], key: Key) -> Result<Ahead, Refusal>
     ensures { AheadPromise s.now key.0 result }
 {
     let cap = header::test(s)?;
-    ahead::ahead_normal(s, cap, key)
+    ahead::ahead_normal(View { words: s, cap }, key)
 }
 
 // What `insert_empty` would answer next.
@@ -70,7 +72,7 @@ pub fn look_ahead_empty(s: &[u64]) -> Result<Ahead, Refusal>
     ensures { AheadEmptyPromise s.now result }
 {
     let cap = header::test(s)?;
-    ahead::ahead_empty(s, cap)
+    ahead::ahead_empty(View { words: s, cap })
 }
 
 // What `insert_manual` would answer next.
@@ -78,5 +80,5 @@ pub fn look_ahead_manual(s: &[u64], h: Handle, side: Side, key: Key) -> Result<A
     ensures { AheadManualPromise s.now h side key.0 result }
 {
     let cap = header::test(s)?;
-    ahead::ahead_manual(s, cap, h, side, key)
+    ahead::ahead_manual(View { words: s, cap }, h, side, key)
 }

@@ -3,6 +3,7 @@
 ghost use Rattle.queue.specs.Promised.{RemovePromise};
 
 use arena::header;
+use arena::store::Store;
 use handle::{Handle, Refusal, Removed};
 use remove::removing;
 
@@ -11,5 +12,5 @@ pub fn remove(s: &mut [u64], h: Handle) -> Result<Removed, Refusal>
     ensures { RemovePromise s.old s.new h result }
 {
     let cap = header::test(s)?;
-    removing::remove(s, cap, h)
+    removing::remove(&mut Store::new(s, cap), h)
 }

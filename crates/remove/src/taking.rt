@@ -25,7 +25,7 @@ fn childless(s: View<'_>, i: u64) -> bool
 }
 
 // "If that parent is left childless it gets rank 1 and the climb goes one up."
-#[tactic(auto, using(tree::proofs::Climb::up_low, tree::proofs::Climb::up_side), unfolding(crate::specs::inner::Take::settle_bare))]
+#[tactic(auto, using(tree::proofs::Climb::up_low), unfolding(crate::specs::inner::Take::settle_bare))]
 fn settle_bare(s: &mut Store<'_>, q: u64) -> Result<(), Refusal>
     requires q_lt_cap { q < s.old.cap }
     ensures keeps { Keeps s.old s.new }

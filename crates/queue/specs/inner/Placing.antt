@@ -8,9 +8,7 @@ use Rattle.insert.specs.inner.Place.{normal_inserted, empty_inserted, manual_ins
 use Rattle.insert.specs.inner.Ahead.{ahead_normal, ahead_empty, ahead_manual}
 use Rattle.queue.specs.inner.Header.{on_header}
 use Rattle.handle.specs.declared.Inserted.{Inserted}
-use Rattle.handle.specs.declared.Inserted.TheVariants as I
 use Rattle.handle.specs.declared.Ahead.{Ahead}
-use Rattle.handle.specs.declared.Ahead.TheVariants as A
 use Rattle.handle.specs.declared.Refusal.{Refusal}
 
 unfoldable pub insert_call : List ℕ → ℤ → ℕ → List ℕ × Result Inserted Refusal

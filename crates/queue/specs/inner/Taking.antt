@@ -6,7 +6,6 @@ use Rattle.arena.specs.Header.{header_of}
 use Rattle.remove.specs.inner.Remove.{remove_by}
 use Rattle.queue.specs.inner.Header.{on_header}
 use Rattle.handle.specs.declared.Removed.{Removed}
-use Rattle.handle.specs.declared.Removed.TheVariants as D
 use Rattle.handle.specs.declared.Refusal.{Refusal}
 
 unfoldable pub remove_call : List ℕ → Handle → List ℕ × Result Removed Refusal

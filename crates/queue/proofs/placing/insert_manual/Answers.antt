@@ -1,16 +1,12 @@
-use Rattle.std.proofs.lemmas.Result.{err_from_is_err_and}
+use Rattle.std.proofs.Common.{rules}
 use Rattle.queue.specs.inner.Placing.{manual_call}
-use Rattle.queue.proofs.CallReads.{on_passes, on_fails}
 use Rattle.queue.proofs.Promising.{manual-writes}
 use Rattle.queue.proofs.placing.insert_manual.Goals as goal
 
 pub returns-in_err-cap : goal.returns-in_err-cap
 unfolding manual_call
-returns-in_err-cap c =
-    let e = c.in_err-cap.was in
-    let p = err_from_is_err_and c.from_residual.result c.from_residual.ensures.1 in
-    rw (p.1, p.2, c.in_err-cap.ensures.says) (search (manual-writes, on_fails))
+returns-in_err-cap c = manual-writes _ _ _ _ _ _ _ (search rules)
 
 pub returns : goal.returns
 unfolding manual_call
-returns c = let e = c.in_ok-cap.was in search (manual-writes, on_passes)
+returns c = manual-writes _ _ _ _ _ _ _ (search rules)

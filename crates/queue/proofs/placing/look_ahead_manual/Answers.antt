@@ -1,16 +1,12 @@
-use Rattle.std.proofs.lemmas.Result.{err_from_is_err_and}
+use Rattle.std.proofs.Common.{rules}
 use Rattle.queue.specs.inner.Placing.{ahead_manual_call}
-use Rattle.queue.proofs.CallReads.{on_passes, on_fails}
 use Rattle.queue.proofs.Promising.{ahead-manual-looks}
 use Rattle.queue.proofs.placing.look_ahead_manual.Goals as goal
 
 pub returns-in_err-cap : goal.returns-in_err-cap
 unfolding ahead_manual_call
-returns-in_err-cap c =
-    let e = c.in_err-cap.was in
-    let p = err_from_is_err_and c.from_residual.result c.from_residual.ensures.1 in
-    rw (p.1, p.2, c.in_err-cap.ensures.says) (search (ahead-manual-looks, on_fails))
+returns-in_err-cap c = ahead-manual-looks _ _ _ _ _ (search rules)
 
 pub returns : goal.returns
 unfolding ahead_manual_call
-returns c = let e = c.in_ok-cap.was in search (ahead-manual-looks, on_passes)
+returns c = ahead-manual-looks _ _ _ _ _ (search rules)
