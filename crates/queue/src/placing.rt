@@ -5,7 +5,7 @@ ghost use Rattle.queue.specs.Promised.{NeedPromise, LayOutPromise, InsertPromise
 use arena::store::{Store, View};
 use arena::words::{FIELDS, HEAD_WORDS};
 use arena::{header, laying};
-use handle::{Ahead, Handle, Inserted, Key, LIMIT, Refusal, Side};
+use handle::{Ahead, Entry, Handle, Inserted, Key, LIMIT, Refusal, Side};
 use insert::{ahead, place};
 
 // How many numbers a store of that capacity takes.
@@ -34,7 +34,7 @@ pub fn insert(s: &mut [u64], key: Key, value: u64) -> Result<Inserted, Refusal>
     ensures { InsertPromise s.old s.new key.0 value result }
 {
     let cap = header::test(s)?;
-    place::insert_normal(&mut Store::new(s, cap), key, value)
+    place::insert_normal(&mut Store::new(s, cap), Entry { key, value })
 }
 
 // Insertion into an empty queue only.
@@ -42,7 +42,7 @@ pub fn insert_empty(s: &mut [u64], key: Key, value: u64) -> Result<Inserted, Ref
     ensures { EmptyPromise s.old s.new key.0 value result }
 {
     let cap = header::test(s)?;
-    place::insert_empty(&mut Store::new(s, cap), key, value)
+    place::insert_empty(&mut Store::new(s, cap), Entry { key, value })
 }
 
 // Insertion beside the entry that h names, on the given side, or in its place.
@@ -56,7 +56,7 @@ pub fn insert_manual(
     ensures { ManualPromise s.old s.new h side key.0 value result }
 {
     let cap = header::test(s)?;
-    place::insert_manual(&mut Store::new(s, cap), h, side, key, value)
+    place::insert_manual(&mut Store::new(s, cap), h, side, Entry { key, value })
 }
 
 // What `insert` would answer next, with nothing changed.
