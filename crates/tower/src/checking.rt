@@ -1,7 +1,7 @@
 // The check of a store, and a store that it must find broken.
-use arena::words::NEXT;
 use arena::header;
 use arena::store::Store;
+use arena::words::NEXT;
 use handle::Handle;
 use output::say_line;
 use queue::looking;
