@@ -21,9 +21,11 @@ module _ (s : List ℕ) (cap i : ℕ) (r : List ℕ) (inv : lay_slots (cap - i) 
   unfolding lay_slots
   slots_end h = rw (done cap i h) at inv
 
-  pub slots-turn : i < cap → (t : List ℕ) → t ≡ fresh_slot s cap i → lay_slots (cap - (i + 1)) t cap ≡ r
+  pub slots_turn : i < cap → (c : ℕ) → c ≡ cap → (t : List ℕ) → t ≡ fresh_slot s c i → lay_slots (cap - (i + 1)) t cap ≡ r
   unfolding lay_slots
-  slots-turn h t e = ap (λ x. lay_slots (cap - (i + 1)) x cap) (e ∙ ap (fresh_slot s cap) (omega (arith, back cap i h))) ∙ (rw (left cap i h) at inv)
+  slots_turn h c d t f =
+      let e : t ≡ fresh_slot s cap i = rw d at f in
+      ap (λ x. lay_slots (cap - (i + 1)) x cap) (e ∙ ap (fresh_slot s cap) (omega (arith, back cap i h))) ∙ (rw (left cap i h) at inv)
 
 module _ (s : List ℕ) (h : ℕ) (r : List ℕ) (inv : zeroed (head_words - h) s ≡ r) where
   pub zero_end : head_words ≤ h → s ≡ r

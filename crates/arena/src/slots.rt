@@ -77,7 +77,7 @@ fn push(s: &mut Store<'_>, i: u64, h: u64, g: u64)
     requires g_bound { g < 18446744073709551615 }
     ensures { Becomes s.old s.new (pushed s.old.words.now s.old.cap i h g) }
 {
-    laying::blank(s.words, s.cap, i, h);
+    laying::blank(s, i, h);
     s.put(i, GENERATION, g + 1);
     s.put(h, STACK, i);
     s.put_head(HEIGHT, h + 1);
@@ -100,6 +100,6 @@ pub fn free(s: &mut Store<'_>, i: u64) -> Result<Freed, Refusal>
         }
         return Err(Refusal::NotSound);
     }
-    laying::blank(s.words, s.cap, i, Handle::NO_SLOT);
+    laying::blank(s, i, Handle::NO_SLOT);
     Ok(Freed::GenerationOverflow)
 }
