@@ -42,8 +42,8 @@ module _ (s : List ℕ) (cap top h : ℕ) where
         pub place_bad : u ≡ false → false ≡ r
         place_bad k = let g = slots_open i l in let j = (rw (← e, f, ← d, k) at g) in sym j ∙ inv
 
-        pub slots-turn : u ≡ true → slots_test (i - 1) s cap top h ≡ r
-        slots-turn k = let g = slots_open i l in let j = (rw (← e, f, ← d, k) at g) in sym j ∙ inv
+        pub slots_turn : u ≡ true → slots_test (i - 1) s cap top h ≡ r
+        slots_turn k = let g = slots_open i l in let j = (rw (← e, f, ← d, k) at g) in sym j ∙ inv
 
 -- the loop over the header's unused words
 module _ (s : List ℕ) where
@@ -65,25 +65,25 @@ module _ (s : List ℕ) where
       pub unused_bad : (w ≡ 0 → ⊥) → false ≡ r
       unused_bad f = let g = unused_open k l in let j = (rw (← e, ne_eqb w 0 f) at g) in sym j ∙ inv
 
-      pub unused-turn : w ≡ 0 → unused_test (k - 1) s ≡ r
-      unused-turn f = let g = unused_open k l in let j = (rw (← e, eq-eqb w 0 f) at g) in sym j ∙ inv
+      pub unused_turn : w ≡ 0 → unused_test (k - 1) s ≡ r
+      unused_turn f = let g = unused_open k l in let j = (rw (← e, eq-eqb w 0 f) at g) in sym j ∙ inv
 
 -- the walk
-pub node-low : (s : List ℕ) (cap top back p : ℕ) (t : Bool) → t ≡ node_test s cap top back p → t ≡ true → p < cap
+pub node_low : (s : List ℕ) (cap top back p : ℕ) (t : Bool) → t ≡ node_test s cap top back p → t ≡ true → p < cap
 unfolding node_test
-node-low s cap top back p t e f = leb-false cap p (no_refusal _ _ (sym e ∙ f)).0
+node_low s cap top back p t e f = leb-false cap p (no_refusal _ _ (sym e ∙ f)).0
 
 module _ (s : List ℕ) (cap top back p q : ℕ) where
-  pub walk-tip : (n : ℕ) → p ≡ no_slot → Some q ≡ walk_model n s cap top back p q
+  pub walk_tip : (n : ℕ) → p ≡ no_slot → Some q ≡ walk_model n s cap top back p q
   unfolding walk_model
-  walk-tip zero e = rw (eq-eqb p no_slot e)
-  walk-tip (suc n) e = rw (eq-eqb p no_slot e)
+  walk_tip zero e = rw (eq-eqb p no_slot e)
+  walk_tip (suc n) e = rw (eq-eqb p no_slot e)
 
   module _ (e : p ≡ no_slot → ⊥) where
-    pub walk-spent : (n : ℕ) → n < 1 → None ≡ walk_model n s cap top back p q
+    pub walk_spent : (n : ℕ) → n < 1 → None ≡ walk_model n s cap top back p q
     unfolding walk_model
-    walk-spent zero l = rw (ne_eqb p no_slot e)
-    walk-spent (suc n) l = absurd (omega arith)
+    walk_spent zero l = rw (ne_eqb p no_slot e)
+    walk_spent (suc n) l = absurd (omega arith)
 
     walk_open : (n : ℕ) → 1 ≤ n
         → walk_model n s cap top back p q
@@ -101,8 +101,8 @@ module _ (s : List ℕ) (cap top back p q : ℕ) where
         walk_broken k = rw (walk_open n l, ← f, g, ← d, ← m, k)
 
         module _ (y : ℕ) (k : x ≡ Some y) (u : Bool) (j : u ≡ join_test s cap y p) where
-          pub walk-apart : u ≡ false → None ≡ walk_model n s cap top back p q
-          walk-apart o = rw (walk_open n l, ← f, g, ← d, ← m, k, ← j, o)
+          pub walk_apart : u ≡ false → None ≡ walk_model n s cap top back p q
+          walk_apart o = rw (walk_open n l, ← f, g, ← d, ← m, k, ← j, o)
 
           pub walk_on : u ≡ true → (b : ℕ) → b ≡ field s cap p RIGHT → (z : Option ℕ) → z ≡ walk_model (n - 1) s cap top p b p → z ≡ walk_model n s cap top back p q
           walk_on o b h z w = rw (walk_open n l, ← f, g, ← d, ← m, k, ← j, o, ← h) w

@@ -21,7 +21,7 @@ use Rattle.queue_of_store.specs.Entries.{EntryWords, AllEntries}
 use Rattle.queue_of_store.proofs.Chains.{end_or, end_last}
 use Rattle.sound.specs.inner.Joints.{after_of}
 use Rattle.sound.specs.inner.Walking.{walk_model}
-use Rattle.sound.proofs.CheckTurns.{walk-tip, walk_on}
+use Rattle.sound.proofs.CheckTurns.{walk_tip, walk_on}
 use Rattle.sound.proofs.NodeFacts.{GoodNode, node-is, Joint, join_is}
 use Rattle.sound.proofs.Rows.{Joined, after-slot, before-slot, after_none, before-none}
 use Rattle.sound.proofs.Grown.{rank-none, rank-some}
@@ -56,7 +56,7 @@ module _ (s : List ℕ) (cap : ℕ) (few : cap ≤ no_slot) where
     pub walks : (t : Tree) (n back q x : ℕ) → Links s cap back t → Ranks t → AllEntries s cap (inorder t) → All (LiveGeneration top) (inorder t)
         → Joined s cap q (inorder t) x → rank t ≤ n → walk_model n s cap top back (top_slot t) q ≡ Some x
     unfolding inorder
-    walks tip n back q x w k v g j h = sym (walk-tip s cap top back no_slot q n refl) ∙ ap Some j
+    walks tip n back q x w k v g j h = sym (walk_tip s cap top back no_slot q n refl) ∙ ap Some j
     walks (fork a e r b) n back q x w k v g j h =
         let f = k.2 in
         let low : e.slot < cap = w.0.low in

@@ -32,6 +32,7 @@ fn good_top(top: u64) -> bool
 }
 
 // Rule 7 of the header: the ten words behind ROOT.
+#[tactic(auto, using(crate::proofs::CheckTurns::unused_end, crate::proofs::CheckTurns::unused_bad, crate::proofs::CheckTurns::unused_turn))]
 fn unused(s: View<'_>) -> bool
     ensures { result ≡ unused_test 10 s.entry.words.now }
 {

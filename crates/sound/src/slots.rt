@@ -137,6 +137,7 @@ fn good_place(s: View<'_>, h: u64, p: u64) -> bool
 }
 
 // All slots, and all places of the stack.
+#[tactic(auto, using(crate::proofs::CheckTurns::slots_end, crate::proofs::CheckTurns::slots_bad, crate::proofs::CheckTurns::place_bad, crate::proofs::CheckTurns::slots_turn))]
 pub fn good_slots(s: View<'_>, top: u64, h: u64) -> bool
     requires h_le_cap { h ≤ s.cap }
     ensures { result ≡ slots_test s.entry.cap s.entry.words.now s.entry.cap top h }

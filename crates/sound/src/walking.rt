@@ -11,6 +11,7 @@ use handle::Handle;
 
 // Walks what hangs at the link p below the slot `back`, after the slot q. n more levels may be entered. The answer is the slot met last,
 // or none where a test failed.
+#[tactic(auto, using(crate::proofs::CheckTurns::node_low, crate::proofs::CheckTurns::walk_tip, crate::proofs::CheckTurns::walk_spent, crate::proofs::CheckTurns::walk_refused, crate::proofs::CheckTurns::walk_broken, crate::proofs::CheckTurns::walk_apart, crate::proofs::CheckTurns::walk_on))]
 fn walk(s: View<'_>, top: u64, n: u64, back: u64, p: u64, q: u64) -> Option<u64>
     ensures { result ≡ walk_model n s.entry.words.now s.entry.cap top back p q }
 {
