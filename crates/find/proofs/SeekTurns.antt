@@ -43,3 +43,6 @@ module _ (s : List ℕ) (cap k p n : ℕ) (r : Result Found Refusal) (inv : seek
 
         pub down : (q ≡ no_slot → ⊥) → seek_from (budget - (n + 1)) s cap k q (n + 1) ≡ r
         down z = sym (seek-down _ s cap k p n l key (sym e) f d q (sym g) (sym m) z) ∙ turn
+
+-- the turns, for the loop that takes them
+pub ruleset turns = (none, start, spent, outside, equal, beside, down)

@@ -33,7 +33,7 @@ fn side_of(k: u64, key: u64) -> Hand
 }
 
 // Searches for the stored key k.
-#[tactic(auto, using(crate::proofs::SeekTurns::none, crate::proofs::SeekTurns::start, crate::proofs::SeekTurns::spent, crate::proofs::SeekTurns::outside, crate::proofs::SeekTurns::equal, crate::proofs::SeekTurns::beside, crate::proofs::SeekTurns::down), unfolding(arena::specs::inner::Budget::budget))]
+#[tactic(auto, using(crate::proofs::SeekTurns::turns), unfolding(arena::specs::inner::Budget::budget))]
 pub fn seek(s: View<'_>, k: u64) -> Result<Found, Refusal>
     ensures value { result ≡ seek_model s.entry.words.now s.entry.cap k }
     ensures found_in { FoundIn s.entry.cap result }

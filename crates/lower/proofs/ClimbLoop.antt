@@ -4,6 +4,7 @@ use mathlib.Core.List.{List}
 use Prim.Native.Nat.{ℕ, ◌+◌, ◌-◌, ◌<◌, ◌≤◌}
 use Rattle.arena.specs.inner.Budget.{budget}
 use Rattle.arena.proofs.Budget.{left, none_left}
+use Rattle.tree.proofs.Climb.{up_low}
 use Rattle.lower.specs.inner.Climb.{climb_turn, lower_from}
 use Rattle.tree.specs.declared.Climbed.{Climbed}
 use Rattle.tree.specs.declared.Climbed.TheVariants.{Done, Up}
@@ -28,3 +29,6 @@ module _ (s : List ℕ) (cap p1 d n : ℕ) (r : List ℕ × Result ⊤ Refusal) 
     pub refused : (m : Refusal) → a ≡ Err m → (x, Err m) ≡ r
     unfolding lower_from
     refused m e = simp (left n h, ← at, e) at inv
+
+-- the turns, for the loop that takes them
+pub ruleset turns = (up_low, again, ended, refused, spent)

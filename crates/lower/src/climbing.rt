@@ -182,7 +182,7 @@ fn climb_turn(s: &mut Store<'_>, p1: u64, d: Hand) -> Result<Climbed, Refusal>
 }
 
 // The climb from a node whose child on that side lost a rank. It ends on every sound store; else it is refused.
-#[tactic(auto, using(tree::proofs::Climb::up_low, crate::proofs::ClimbLoop::again, crate::proofs::ClimbLoop::ended, crate::proofs::ClimbLoop::refused, crate::proofs::ClimbLoop::spent), unfolding(arena::specs::inner::Budget::budget))]
+#[tactic(auto, using(crate::proofs::ClimbLoop::turns), unfolding(arena::specs::inner::Budget::budget))]
 pub fn climb(s: &mut Store<'_>, start: u64, side: Hand) -> Result<(), Refusal>
     requires start_lt_cap { start < s.old.cap }
     ensures keeps { Keeps s.old s.new }

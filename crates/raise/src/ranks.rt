@@ -79,7 +79,7 @@ fn fix_turn(
 }
 
 // The climb from three nodes, each the parent of the one before it.
-#[tactic(auto, using(tree::proofs::Climb::up_low, crate::proofs::Climbs::again, crate::proofs::Climbs::ended, crate::proofs::Climbs::refused, crate::proofs::Climbs::spent), unfolding(arena::specs::inner::Budget::budget))]
+#[tactic(auto, using(crate::proofs::Climbs::turns), unfolding(arena::specs::inner::Budget::budget))]
 fn climb(s: &mut Store<'_>, q0: u64, q1: u64, q2: u64, e01: Hand, e12: Hand) -> Result<(), Refusal>
     requires q0_lt_cap { q0 < s.old.cap }
     requires q1_lt_cap { q1 < s.old.cap }
