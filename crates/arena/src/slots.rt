@@ -2,7 +2,7 @@
 // From the Rust: the free list of arena/base_arena.rs, with a generation for each slot.
 ghost use Rattle.std.specs.Prelude.{◌≡◌, ◌<◌};
 ghost use Rattle.arena.specs.Words.{field as field_of, GENERATION as GENERATION_OF};
-ghost use Rattle.arena.specs.inner.Stored.{Becomes, Keeps};
+ghost use Rattle.arena.specs.inner.Stored.{Becomes, SameLoan};
 ghost use Rattle.arena.specs.inner.Slots.{handle_with, PeekedIn, peek_slot, popped, take_slot, TakenIn, pushed, free_slot};
 
 use crate::laying;
@@ -59,7 +59,7 @@ fn pop(s: &mut Store<'_>, p: u64)
 // Takes the slot that was freed last. Its fields other than the stack's are left to the caller.
 #[tactic(auto, unfolding(crate::specs::inner::Slots::take_slot))]
 pub fn take(s: &mut Store<'_>) -> Result<Handle, Refusal>
-    ensures keeps { Keeps s.old s.new }
+    ensures keeps { SameLoan s.old s.new }
     ensures result_after { (s.new.words.now, result) ≡ take_slot s.old.words.now s.old.cap }
     ensures taken_in { TakenIn s.old.cap result }
 {
@@ -87,7 +87,7 @@ fn push(s: &mut Store<'_>, i: u64, h: u64, g: u64)
 #[tactic(auto, unfolding(crate::specs::inner::Slots::free_slot, crate::specs::inner::Slots::free_with))]
 pub fn free(s: &mut Store<'_>, i: u64) -> Result<Freed, Refusal>
     requires i_lt_cap { i < s.old.cap }
-    ensures keeps { Keeps s.old s.new }
+    ensures keeps { SameLoan s.old s.new }
     ensures result_after { (s.new.words.now, result) ≡ free_slot s.old.words.now s.old.cap i }
 {
     let h = s.head(HEIGHT);

@@ -1,6 +1,6 @@
 // A store with its capacity: `Store` is written, `View` only read. Each has room for so many slots, wherever one stands.
 // Above this crate a store is read and written through these methods alone, and their clauses say what `words` says of the numbers.
-// A write leaves loan and capacity (specs/inner/Stored.antt): Becomes says the words besides, and Keeps stands beside a result.
+// A write leaves loan and capacity (specs/inner/Stored.antt): Becomes says the words besides, and SameLoan stands beside a result.
 ghost use Rattle.arena.specs.Words.{Room};
 
 use crate::words;

@@ -4,7 +4,7 @@
 #![tactic(auto)]
 
 ghost use Rattle.std.specs.Prelude.{◌≡◌, ◌<◌};
-ghost use Rattle.arena.specs.inner.Stored.{Becomes, Keeps};
+ghost use Rattle.arena.specs.inner.Stored.{Becomes, SameLoan};
 ghost use Rattle.chain.specs.inner.Links.{hooked, link_alone, link_beside, unlink_slot};
 ghost use Rattle.chain.specs.inner.Steps.{followed, step_from, end_of, SteppedIn};
 
@@ -62,7 +62,7 @@ pub fn link_beside(s: &mut Store<'_>, i: u64, p: u64, d: Hand)
 #[tactic(auto, unfolding(crate::specs::inner::Links::unlink_slot, crate::specs::inner::Links::joined, crate::specs::inner::Links::neighbours))]
 pub fn unlink(s: &mut Store<'_>, i: u64) -> Neighbours
     requires i_lt_cap { i < s.old.cap }
-    ensures keeps { Keeps s.old s.new }
+    ensures keeps { SameLoan s.old s.new }
     ensures result_after { (s.new.words.now, result) ≡ unlink_slot s.old.words.now s.old.cap i }
 {
     let prev = s.field(i, PREV);

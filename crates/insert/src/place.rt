@@ -2,7 +2,7 @@
 // A caller relies on the equality with specs/inner/Place.antt. "An insertion that replaces never meets 1": a slot is asked for only
 // where a new entry is needed. From the Rust: SimpleOrdArenaInsertEntry::insert and insert_inx_manual_unwrap (ord/insert.rs).
 ghost use Rattle.std.specs.Prelude.{Ok, ◌≡◌, ◌<◌};
-ghost use Rattle.arena.specs.inner.Stored.{Becomes, Keeps};
+ghost use Rattle.arena.specs.inner.Stored.{Becomes, SameLoan};
 ghost use Rattle.insert.specs.inner.Kinds.{PreparedIn};
 ghost use Rattle.insert.specs.inner.Place.{stand_alone, placed_alone, hung_below, placed_beside, value_replaced, applied, normal_inserted, empty_inserted, manual_inserted};
 
@@ -35,7 +35,7 @@ fn stand_alone(s: &mut Store<'_>, i: u64, entry: Entry)
 
 #[tactic(auto, unfolding(crate::specs::inner::Place::placed_alone))]
 fn place_alone(s: &mut Store<'_>, entry: Entry) -> Result<Inserted, Refusal>
-    ensures keeps { Keeps s.old s.new }
+    ensures keeps { SameLoan s.old s.new }
     ensures result_after { (s.new.words.now, result) ≡ placed_alone s.old.words.now s.old.cap entry.key.0 entry.value }
 {
     let h = slots::take(s)?;
@@ -49,7 +49,7 @@ fn place_alone(s: &mut Store<'_>, entry: Entry) -> Result<Inserted, Refusal>
 fn hang_below(s: &mut Store<'_>, i: u64, p: u64, d: Hand, entry: Entry) -> Result<(), Refusal>
     requires i_lt_cap { i < s.old.cap }
     requires p_lt_cap { p < s.old.cap }
-    ensures keeps { Keeps s.old s.new }
+    ensures keeps { SameLoan s.old s.new }
     ensures result_after { (s.new.words.now, result) ≡ hung_below s.old.words.now s.old.cap i p d entry.key.0 entry.value }
 {
     entries::put_entry(s, i, entry);
@@ -68,7 +68,7 @@ fn hang_below(s: &mut Store<'_>, i: u64, p: u64, d: Hand, entry: Entry) -> Resul
 #[tactic(auto, unfolding(crate::specs::inner::Place::placed_beside))]
 fn place_beside(s: &mut Store<'_>, p: u64, d: Hand, entry: Entry) -> Result<Inserted, Refusal>
     requires p_lt_cap { p < s.old.cap }
-    ensures keeps { Keeps s.old s.new }
+    ensures keeps { SameLoan s.old s.new }
     ensures result_after { (s.new.words.now, result) ≡ placed_beside s.old.words.now s.old.cap p d entry.key.0 entry.value }
 {
     let h = slots::take(s)?;
@@ -81,7 +81,7 @@ fn place_beside(s: &mut Store<'_>, p: u64, d: Hand, entry: Entry) -> Result<Inse
 #[tactic(auto, unfolding(crate::specs::inner::Place::value_replaced))]
 fn replace(s: &mut Store<'_>, i: u64, value: u64) -> Result<Inserted, Refusal>
     requires i_lt_cap { i < s.old.cap }
-    ensures keeps { Keeps s.old s.new }
+    ensures keeps { SameLoan s.old s.new }
     ensures result_after { (s.new.words.now, result) ≡ value_replaced s.old.words.now s.old.cap i value }
 {
     let h = slots::handle_at(s.view(), i);
@@ -93,7 +93,7 @@ fn replace(s: &mut Store<'_>, i: u64, value: u64) -> Result<Inserted, Refusal>
 // Carries out what was prepared.
 pub fn apply(s: &mut Store<'_>, p: Prepared, entry: Entry) -> Result<Inserted, Refusal>
     requires prepared_in { PreparedIn s.old.cap (Ok p) }
-    ensures keeps { Keeps s.old s.new }
+    ensures keeps { SameLoan s.old s.new }
     ensures result_after { (s.new.words.now, result) ≡ applied s.old.words.now s.old.cap (Ok p) entry.key.0 entry.value }
 {
     match p {
@@ -105,7 +105,7 @@ pub fn apply(s: &mut Store<'_>, p: Prepared, entry: Entry) -> Result<Inserted, R
 
 #[tactic(auto, unfolding(crate::specs::inner::Place::normal_inserted))]
 pub fn insert_normal(s: &mut Store<'_>, entry: Entry) -> Result<Inserted, Refusal>
-    ensures keeps { Keeps s.old s.new }
+    ensures keeps { SameLoan s.old s.new }
     ensures result_after { (s.new.words.now, result) ≡ normal_inserted s.old.words.now s.old.cap entry.key.0 entry.value }
 {
     let k = keys::stored_key(entry.key);
@@ -115,7 +115,7 @@ pub fn insert_normal(s: &mut Store<'_>, entry: Entry) -> Result<Inserted, Refusa
 
 #[tactic(auto, unfolding(crate::specs::inner::Place::empty_inserted))]
 pub fn insert_empty(s: &mut Store<'_>, entry: Entry) -> Result<Inserted, Refusal>
-    ensures keeps { Keeps s.old s.new }
+    ensures keeps { SameLoan s.old s.new }
     ensures result_after { (s.new.words.now, result) ≡ empty_inserted s.old.words.now s.old.cap entry.key.0 entry.value }
 {
     let p = kinds::prepare_empty(s.view())?;
@@ -129,7 +129,7 @@ pub fn insert_manual(
     side: Side,
     entry: Entry,
 ) -> Result<Inserted, Refusal>
-    ensures keeps { Keeps s.old s.new }
+    ensures keeps { SameLoan s.old s.new }
     ensures result_after { (s.new.words.now, result) ≡ manual_inserted s.old.words.now s.old.cap h side entry.key.0 entry.value }
 {
     let k = keys::stored_key(entry.key);

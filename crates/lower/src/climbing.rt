@@ -2,7 +2,7 @@
 // Each turn is a function of its own that tells the loop whether to go on; the loop has a budget that a sound store never meets.
 // From the Rust: the second loop of ord/remove.rs.
 ghost use Rattle.std.specs.Prelude.{◌≡◌, ◌<◌};
-ghost use Rattle.arena.specs.inner.Stored.{Keeps};
+ghost use Rattle.arena.specs.inner.Stored.{SameLoan};
 ghost use Rattle.arena.specs.inner.Budget.{budget};
 ghost use Rattle.tree.specs.inner.Climb.{Standing};
 ghost use Rattle.lower.specs.inner.Climb.{go_up, lower_one, lowered_both, climb_past_with, climb_past, climb_at, climb_turn, lower_from};
@@ -43,7 +43,7 @@ fn go_up(s: View<'_>, p1: u64) -> Result<Climbed, Refusal>
 #[tactic(auto, unfolding(crate::specs::inner::Climb::lower_one, crate::specs::inner::Climb::upward))]
 pub fn lower_one(s: &mut Store<'_>, p1: u64, rank: u64) -> Result<Climbed, Refusal>
     requires p1_lt_cap { p1 < s.old.cap }
-    ensures keeps { Keeps s.old s.new }
+    ensures keeps { SameLoan s.old s.new }
     ensures result_after { (s.new.words.now, result) ≡ lower_one s.old.words.now s.old.cap p1 rank }
     ensures standing { Standing s.old.cap result }
 {
@@ -57,7 +57,7 @@ fn lower_both(s: &mut Store<'_>, p1: u64, s0: u64, rank0: u64) -> Result<Climbed
     requires p1_lt_cap { p1 < s.old.cap }
     requires s0_lt_cap { s0 < s.old.cap }
     requires rank0_lt_budget { rank0 < budget }
-    ensures keeps { Keeps s.old s.new }
+    ensures keeps { SameLoan s.old s.new }
     ensures result_after { (s.new.words.now, result) ≡ lowered_both s.old.words.now s.old.cap p1 s0 rank0 }
     ensures standing { Standing s.old.cap result }
 {
@@ -78,7 +78,7 @@ fn climb_by(
     requires n1_lt_cap { t.n1 < s.old.cap }
     requires s0_lt_cap { t.s0 < s.old.cap }
     requires rank0_lt_budget { rank0 < budget }
-    ensures keeps { Keeps s.old s.new }
+    ensures keeps { SameLoan s.old s.new }
     ensures result_after { (s.new.words.now, result) ≡ climb_past_with s.old.words.now s.old.cap d t rank0 rs rb }
     ensures standing { Standing s.old.cap result }
 {
@@ -108,7 +108,7 @@ fn climb_past(s: &mut Store<'_>, d: Hand, p: Site, rs: u64) -> Result<Climbed, R
     requires n1_lt_cap { p.n1 < s.old.cap }
     requires s0_lt_cap { p.s0 < s.old.cap }
     requires rank0_lt_budget { p.rank0 < budget }
-    ensures keeps { Keeps s.old s.new }
+    ensures keeps { SameLoan s.old s.new }
     ensures result_after { (s.new.words.now, result) ≡ climb_past s.old.words.now s.old.cap d p rs }
     ensures standing { Standing s.old.cap result }
 {
@@ -136,7 +136,7 @@ fn climb_at(s: &mut Store<'_>, d: Hand, p: Site) -> Result<Climbed, Refusal>
     requires n1_lt_cap { p.n1 < s.old.cap }
     requires s0_lt_cap { p.s0 < s.old.cap }
     requires rank0_lt_budget { p.rank0 < budget }
-    ensures keeps { Keeps s.old s.new }
+    ensures keeps { SameLoan s.old s.new }
     ensures result_after { (s.new.words.now, result) ≡ climb_at s.old.words.now s.old.cap d p }
     ensures standing { Standing s.old.cap result }
 {
@@ -154,7 +154,7 @@ fn climb_at(s: &mut Store<'_>, d: Hand, p: Site) -> Result<Climbed, Refusal>
 #[tactic(auto, unfolding(crate::specs::inner::Climb::climb_turn, crate::specs::inner::Climb::climb_turn_with, arena::specs::inner::Budget::budget))]
 fn climb_turn(s: &mut Store<'_>, p1: u64, d: Hand) -> Result<Climbed, Refusal>
     requires p1_lt_cap { p1 < s.old.cap }
-    ensures keeps { Keeps s.old s.new }
+    ensures keeps { SameLoan s.old s.new }
     ensures result_after { (s.new.words.now, result) ≡ climb_turn s.old.words.now s.old.cap p1 d }
     ensures standing { Standing s.old.cap result }
 {
@@ -185,7 +185,7 @@ fn climb_turn(s: &mut Store<'_>, p1: u64, d: Hand) -> Result<Climbed, Refusal>
 #[tactic(auto, using(crate::proofs::ClimbLoop::turns), unfolding(arena::specs::inner::Budget::budget))]
 pub fn climb(s: &mut Store<'_>, start: u64, side: Hand) -> Result<(), Refusal>
     requires start_lt_cap { start < s.old.cap }
-    ensures keeps { Keeps s.old s.new }
+    ensures keeps { SameLoan s.old s.new }
     ensures result_after { (s.new.words.now, result) ≡ lower_from budget s.old.words.now s.old.cap start side }
 {
     let mut p1 = start;

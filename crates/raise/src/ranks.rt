@@ -2,7 +2,7 @@
 // A caller relies on the equality with specs/inner/Ranks.antt. A refusal says that the words hold no sound queue.
 // From the Rust: rebalance_inserted of ord/insert.rs. The climb has a budget, so that it ends on any words.
 ghost use Rattle.std.specs.Prelude.{◌≡◌, ◌<◌};
-ghost use Rattle.arena.specs.inner.Stored.{Keeps};
+ghost use Rattle.arena.specs.inner.Stored.{SameLoan};
 ghost use Rattle.arena.specs.inner.Budget.{budget};
 ghost use Rattle.tree.specs.inner.Climb.{Standing};
 ghost use Rattle.raise.specs.inner.Ranks.{raised_up, fix_turn, raise_from, climbed_above, rebalanced};
@@ -19,7 +19,7 @@ use tree::Climbed;
 fn raise(s: &mut Store<'_>, p2: u64, p3: u64, r1: u64) -> Result<Climbed, Refusal>
     requires p2_lt_cap { p2 < s.old.cap }
     requires r1_lt_budget { r1 < budget }
-    ensures keeps { Keeps s.old s.new }
+    ensures keeps { SameLoan s.old s.new }
     ensures result_after { (s.new.words.now, result) ≡ raised_up s.old.words.now s.old.cap p2 p3 r1 }
     ensures standing { Standing s.old.cap result }
 {
@@ -44,7 +44,7 @@ fn fix_turn(
     requires p0_lt_cap { p0 < s.old.cap }
     requires p1_lt_cap { p1 < s.old.cap }
     requires p2_lt_cap { p2 < s.old.cap }
-    ensures keeps { Keeps s.old s.new }
+    ensures keeps { SameLoan s.old s.new }
     ensures result_after { (s.new.words.now, result) ≡ fix_turn s.old.words.now s.old.cap p0 p1 p2 d01 d12 }
     ensures standing { Standing s.old.cap result }
 {
@@ -84,7 +84,7 @@ fn climb(s: &mut Store<'_>, q0: u64, q1: u64, q2: u64, e01: Hand, e12: Hand) -> 
     requires q0_lt_cap { q0 < s.old.cap }
     requires q1_lt_cap { q1 < s.old.cap }
     requires q2_lt_cap { q2 < s.old.cap }
-    ensures keeps { Keeps s.old s.new }
+    ensures keeps { SameLoan s.old s.new }
     ensures result_after { (s.new.words.now, result) ≡ raise_from budget s.old.words.now s.old.cap q0 q1 q2 e01 e12 }
 {
     let mut p0 = q0;
@@ -112,7 +112,7 @@ fn climb(s: &mut Store<'_>, q0: u64, q1: u64, q2: u64, e01: Hand, e12: Hand) -> 
 fn climb_above(s: &mut Store<'_>, p0: u64, p1: u64) -> Result<(), Refusal>
     requires p0_lt_cap { p0 < s.old.cap }
     requires p1_lt_cap { p1 < s.old.cap }
-    ensures keeps { Keeps s.old s.new }
+    ensures keeps { SameLoan s.old s.new }
     ensures result_after { (s.new.words.now, result) ≡ climbed_above s.old.words.now s.old.cap p0 p1 }
 {
     let p2 = s.field(p1, BACK);
@@ -129,7 +129,7 @@ fn climb_above(s: &mut Store<'_>, p0: u64, p1: u64) -> Result<(), Refusal>
 pub fn rebalance(s: &mut Store<'_>, p0: u64, p1: u64) -> Result<(), Refusal>
     requires p0_lt_cap { p0 < s.old.cap }
     requires p1_lt_cap { p1 < s.old.cap }
-    ensures keeps { Keeps s.old s.new }
+    ensures keeps { SameLoan s.old s.new }
     ensures result_after { (s.new.words.now, result) ≡ rebalanced s.old.words.now s.old.cap p0 p1 }
 {
     if s.field(p1, RANK) == 2 {

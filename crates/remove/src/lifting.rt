@@ -2,7 +2,7 @@
 // A replacement is lifted out first and then takes the removed node's place, so that it may have stood right under it.
 // From the Rust: the first loop of ord/remove.rs, which replaces first and has that case apart.
 ghost use Rattle.std.specs.Prelude.{◌≡◌, ◌<◌};
-ghost use Rattle.arena.specs.inner.Stored.{Becomes, Keeps};
+ghost use Rattle.arena.specs.inner.Stored.{Becomes, SameLoan};
 ghost use Rattle.remove.specs.inner.Lift.{only_child, side_under, lift_out, stands_in, node_replaced};
 
 use arena::store::{Store, View};
@@ -45,7 +45,7 @@ fn side_under(s: View<'_>, q: u64, m: u64) -> Hand
 #[tactic(auto, unfolding(crate::specs::inner::Lift::lift_out, crate::specs::inner::Lift::lift_with, crate::specs::inner::Lift::hung_up))]
 pub fn lift(s: &mut Store<'_>, m: u64) -> Lifted
     requires m_lt_cap { m < s.old.cap }
-    ensures keeps { Keeps s.old s.new }
+    ensures keeps { SameLoan s.old s.new }
     ensures result_after { (s.new.words.now, result) ≡ lift_out s.old.words.now s.old.cap m }
 {
     let c = only_child(s.view(), m);

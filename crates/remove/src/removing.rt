@@ -2,7 +2,7 @@
 // A refusal for a dead handle changes nothing; NotSound is answered on no sound store. The store keeps its loan and its capacity.
 // From the Rust: remove of ord/simple_ord_arena.rs over internal_remove of ord/remove.rs.
 ghost use Rattle.std.specs.Prelude.{◌≡◌, ◌<◌};
-ghost use Rattle.arena.specs.inner.Stored.{Keeps};
+ghost use Rattle.arena.specs.inner.Stored.{SameLoan};
 ghost use Rattle.remove.specs.inner.Remove.{let_go, remove_live, remove_by};
 
 use crate::taking;
@@ -15,7 +15,7 @@ use handle::{Handle, Refusal, Removed};
 #[tactic(auto, unfolding(crate::specs::inner::Remove::let_go))]
 fn let_go(s: &mut Store<'_>, i: u64) -> Result<Freed, Refusal>
     requires i_lt_cap { i < s.old.cap }
-    ensures keeps { Keeps s.old s.new }
+    ensures keeps { SameLoan s.old s.new }
     ensures result_after { (s.new.words.now, result) ≡ let_go s.old.words.now s.old.cap i }
 {
     chain::unlink(s, i);
@@ -26,7 +26,7 @@ fn let_go(s: &mut Store<'_>, i: u64) -> Result<Freed, Refusal>
 #[tactic(auto, unfolding(crate::specs::inner::Remove::remove_live))]
 fn remove_live(s: &mut Store<'_>, i: u64) -> Result<Removed, Refusal>
     requires i_lt_cap { i < s.old.cap }
-    ensures keeps { Keeps s.old s.new }
+    ensures keeps { SameLoan s.old s.new }
     ensures result_after { (s.new.words.now, result) ≡ remove_live s.old.words.now s.old.cap i }
 {
     let entry = entries::read_entry(s.view(), i);
@@ -40,7 +40,7 @@ fn remove_live(s: &mut Store<'_>, i: u64) -> Result<Removed, Refusal>
 // Removes the entry that h names.
 #[tactic(auto, using(arena::proofs::SlotReads::live_low), unfolding(crate::specs::inner::Remove::remove_by))]
 pub fn remove(s: &mut Store<'_>, h: Handle) -> Result<Removed, Refusal>
-    ensures keeps { Keeps s.old s.new }
+    ensures keeps { SameLoan s.old s.new }
     ensures result_after { (s.new.words.now, result) ≡ remove_by s.old.words.now s.old.cap h }
 {
     if entries::live(s.view(), h) {

@@ -2,7 +2,7 @@
 // NotSound is answered on no sound store. The chain and the slot itself are left to the caller.
 // From the Rust: internal_remove of ord/remove.rs.
 ghost use Rattle.std.specs.Prelude.{◌≡◌, ◌<◌};
-ghost use Rattle.arena.specs.inner.Stored.{Keeps};
+ghost use Rattle.arena.specs.inner.Stored.{SameLoan};
 ghost use Rattle.remove.specs.inner.Take.{is_childless, settle_bare, settle_at, replacement_of, filled_by, take_out};
 
 use crate::lifting;
@@ -28,7 +28,7 @@ fn childless(s: View<'_>, i: u64) -> bool
 #[tactic(auto, using(tree::proofs::Climb::up_low), unfolding(crate::specs::inner::Take::settle_bare))]
 fn settle_bare(s: &mut Store<'_>, q: u64) -> Result<(), Refusal>
     requires q_lt_cap { q < s.old.cap }
-    ensures keeps { Keeps s.old s.new }
+    ensures keeps { SameLoan s.old s.new }
     ensures result_after { (s.new.words.now, result) ≡ settle_bare s.old.words.now s.old.cap q }
 {
     match climbing::lower_one(s, q, 1)? {
@@ -40,7 +40,7 @@ fn settle_bare(s: &mut Store<'_>, q: u64) -> Result<(), Refusal>
 // The ranks from q on, whose child on the side e lost a node; nothing to do where there is no node above.
 #[tactic(auto, unfolding(crate::specs::inner::Take::settle_at))]
 fn settle(s: &mut Store<'_>, q: u64, e: Hand) -> Result<(), Refusal>
-    ensures keeps { Keeps s.old s.new }
+    ensures keeps { SameLoan s.old s.new }
     ensures result_after { (s.new.words.now, result) ≡ settle_at s.old.words.now s.old.cap q e }
 {
     if s.cap <= q {
@@ -70,7 +70,7 @@ fn replacement(s: View<'_>, i: u64) -> u64
 fn fill(s: &mut Store<'_>, i: u64, m: u64) -> Result<(), Refusal>
     requires i_lt_cap { i < s.old.cap }
     requires m_lt_cap { m < s.old.cap }
-    ensures keeps { Keeps s.old s.new }
+    ensures keeps { SameLoan s.old s.new }
     ensures result_after { (s.new.words.now, result) ≡ filled_by s.old.words.now s.old.cap i m }
 {
     let at = lifting::lift(s, m);
@@ -85,7 +85,7 @@ fn fill(s: &mut Store<'_>, i: u64, m: u64) -> Result<(), Refusal>
 #[tactic(auto, unfolding(crate::specs::inner::Take::take_out, crate::specs::inner::Take::closed_from, crate::specs::inner::Take::take_over))]
 pub fn take_out(s: &mut Store<'_>, i: u64) -> Result<(), Refusal>
     requires i_lt_cap { i < s.old.cap }
-    ensures keeps { Keeps s.old s.new }
+    ensures keeps { SameLoan s.old s.new }
     ensures result_after { (s.new.words.now, result) ≡ take_out s.old.words.now s.old.cap i }
 {
     if childless(s.view(), i) {

@@ -3,8 +3,8 @@ use Rattle.std.specs.Prelude.{ℕ, List, ◌≡◌}
 use Rattle.arena.specs.declared.store.Store.{Store}
 
 -- the same loan and the same capacity
-abbrev pub Keeps : Store → Store → Type 0
-Keeps a b = (b.words.ghost_name ≡ a.words.ghost_name) × (b.cap ≡ a.cap)
+abbrev pub SameLoan : Store → Store → Type 0
+SameLoan a b = (b.words.ghost_name ≡ a.words.ghost_name) × (b.cap ≡ a.cap)
 
 -- the same loan and capacity, and these words
 abbrev pub Becomes : Store → Store → List ℕ → Type 0
