@@ -1,7 +1,7 @@
 // The look-ahead: what the same insertion would get next, with nothing changed.
 // A caller relies on the equality with specs/inner/Ahead.antt; the store is a View, which nothing can write.
 // From the Rust: SimpleOrdArenaInsertEntry::ptr and OrdEntryKind (ord/insert.rs).
-ghost use Rattle.std.specs.Prelude.{Ok, ◌≡◌};
+ghost use Rattle.std.specs.Prelude.{◌≡◌};
 ghost use Rattle.insert.specs.inner.Kinds.{PreparedIn};
 ghost use Rattle.insert.specs.inner.Ahead.{next_new, looked_ahead, ahead_normal, ahead_empty, ahead_manual};
 
@@ -21,11 +21,11 @@ fn next_new(s: View<'_>) -> Result<Ahead, Refusal>
 }
 
 // What `place::apply` would answer.
-pub fn look_ahead(s: View<'_>, p: Prepared) -> Result<Ahead, Refusal>
-    requires prepared_in { PreparedIn s.cap (Ok p) }
-    ensures { result ≡ looked_ahead s.entry.words.now s.entry.cap (Ok p) }
+pub fn look_ahead(s: View<'_>, p: Result<Prepared, Refusal>) -> Result<Ahead, Refusal>
+    requires prepared_in { PreparedIn s.cap p }
+    ensures { result ≡ looked_ahead s.entry.words.now s.entry.cap p }
 {
-    match p {
+    match p? {
         Prepared::Alone | Prepared::Beside(_, _) => next_new(s),
         Prepared::Replace(i) => Ok(Ahead::Replacing(slots::handle_at(s, i))),
     }
@@ -36,7 +36,7 @@ pub fn ahead_normal(s: View<'_>, key: Key) -> Result<Ahead, Refusal>
     ensures { result ≡ ahead_normal s.entry.words.now s.entry.cap key.0 }
 {
     let k = keys::stored_key(key);
-    let p = kinds::prepare_normal(s, k)?;
+    let p = kinds::prepare_normal(s, k);
     look_ahead(s, p)
 }
 
@@ -44,7 +44,7 @@ pub fn ahead_normal(s: View<'_>, key: Key) -> Result<Ahead, Refusal>
 pub fn ahead_empty(s: View<'_>) -> Result<Ahead, Refusal>
     ensures { result ≡ ahead_empty s.entry.words.now s.entry.cap }
 {
-    let p = kinds::prepare_empty(s)?;
+    let p = kinds::prepare_empty(s);
     look_ahead(s, p)
 }
 
@@ -53,6 +53,6 @@ pub fn ahead_manual(s: View<'_>, h: Handle, side: Side, key: Key) -> Result<Ahea
     ensures { result ≡ ahead_manual s.entry.words.now s.entry.cap h side key.0 }
 {
     let k = keys::stored_key(key);
-    let p = kinds::prepare_manual(s, h, side, k)?;
+    let p = kinds::prepare_manual(s, h, side, k);
     look_ahead(s, p)
 }

@@ -1,7 +1,7 @@
 // Placing: a prepared insertion is carried out, and the three kinds of insertion from end to end. Loan and capacity of the store stay.
 // A caller relies on the equality with specs/inner/Place.antt. "An insertion that replaces never meets 1": a slot is asked for only
 // where a new entry is needed. From the Rust: SimpleOrdArenaInsertEntry::insert and insert_inx_manual_unwrap (ord/insert.rs).
-ghost use Rattle.std.specs.Prelude.{Ok, ◌≡◌, ◌<◌};
+ghost use Rattle.std.specs.Prelude.{◌≡◌, ◌<◌};
 ghost use Rattle.arena.specs.inner.Stored.{Becomes, SameLoan};
 ghost use Rattle.insert.specs.inner.Kinds.{PreparedIn};
 ghost use Rattle.insert.specs.inner.Place.{stand_alone, placed_alone, hung_below, placed_beside, value_replaced, applied, normal_inserted, empty_inserted, manual_inserted};
@@ -90,13 +90,17 @@ fn replace(s: &mut Store<'_>, i: u64, value: u64) -> Result<Inserted, Refusal>
     Ok(Inserted::Replacing(h, old))
 }
 
-// Carries out what was prepared.
-pub fn apply(s: &mut Store<'_>, p: Prepared, entry: Entry) -> Result<Inserted, Refusal>
-    requires prepared_in { PreparedIn s.old.cap (Ok p) }
+// Carries out what was prepared, or hands the refusal on.
+pub fn apply(
+    s: &mut Store<'_>,
+    p: Result<Prepared, Refusal>,
+    entry: Entry,
+) -> Result<Inserted, Refusal>
+    requires prepared_in { PreparedIn s.old.cap p }
     ensures keeps { SameLoan s.old s.new }
-    ensures result_after { (s.new.words.now, result) ≡ applied s.old.words.now s.old.cap (Ok p) entry.key.0 entry.value }
+    ensures result_after { (s.new.words.now, result) ≡ applied s.old.words.now s.old.cap p entry.key.0 entry.value }
 {
-    match p {
+    match p? {
         Prepared::Alone => place_alone(s, entry),
         Prepared::Beside(q, d) => place_beside(s, q, d, entry),
         Prepared::Replace(i) => replace(s, i, entry.value),
@@ -109,7 +113,7 @@ pub fn insert_normal(s: &mut Store<'_>, entry: Entry) -> Result<Inserted, Refusa
     ensures result_after { (s.new.words.now, result) ≡ normal_inserted s.old.words.now s.old.cap entry.key.0 entry.value }
 {
     let k = keys::stored_key(entry.key);
-    let p = kinds::prepare_normal(s.view(), k)?;
+    let p = kinds::prepare_normal(s.view(), k);
     apply(s, p, entry)
 }
 
@@ -118,7 +122,7 @@ pub fn insert_empty(s: &mut Store<'_>, entry: Entry) -> Result<Inserted, Refusal
     ensures keeps { SameLoan s.old s.new }
     ensures result_after { (s.new.words.now, result) ≡ empty_inserted s.old.words.now s.old.cap entry.key.0 entry.value }
 {
-    let p = kinds::prepare_empty(s.view())?;
+    let p = kinds::prepare_empty(s.view());
     apply(s, p, entry)
 }
 
@@ -133,6 +137,6 @@ pub fn insert_manual(
     ensures result_after { (s.new.words.now, result) ≡ manual_inserted s.old.words.now s.old.cap h side entry.key.0 entry.value }
 {
     let k = keys::stored_key(entry.key);
-    let p = kinds::prepare_manual(s.view(), h, side, k)?;
+    let p = kinds::prepare_manual(s.view(), h, side, k);
     apply(s, p, entry)
 }

@@ -8,8 +8,9 @@ use arena::header;
 use arena::store::View;
 use arena::words::{HEIGHT, RANK};
 use handle::{Handle, Refusal};
+use output::out::Out;
 use output::phrases::Refused;
-use output::{say, say_line};
+use output::say_line;
 use queue::looking;
 use std::fmt;
 use std::fmt::{Display, Formatter};
@@ -18,7 +19,11 @@ use walking::Walk;
 // Lists at once on standard output.
 pub fn print(store: &[u64]) {
     match Listing::of(store) {
-        Ok(listing) => say!("{listing}"),
+        Ok(listing) => {
+            let mut out = Out::new();
+            write!(out, "{listing}");
+            out.flush();
+        }
         Err(r) => say_line!("{}", Refused(r)),
     }
 }

@@ -1,10 +1,12 @@
 // The ranks after a new entry n0 under n1: from there up, until the ranks are in order again or one restructure has put them so.
 // A caller relies on the equality with specs/inner/Ranks.antt. A refusal says that the words hold no sound queue.
 // From the Rust: rebalance_inserted of ord/insert.rs. The climb has a budget, so that it ends on any words.
-ghost use Rattle.std.specs.Prelude.{◌≡◌, ◌<◌};
-ghost use Rattle.arena.specs.inner.Stored.{SameLoan};
+ghost use Rattle.std.specs.Prelude.{◌≡◌, ◌<◌, eqb};
+ghost use Rattle.arena.specs.Branch.{ifte};
+ghost use Rattle.arena.specs.inner.Stored.{Becomes, SameLoan};
 ghost use Rattle.arena.specs.inner.Budget.{budget};
 ghost use Rattle.tree.specs.inner.Climb.{Standing};
+ghost use Rattle.raise.specs.inner.Restructures.{turned_same, turned_across};
 ghost use Rattle.raise.specs.inner.Ranks.{raised_up, fix_turn, raise_from, climbed_above, rebalanced};
 
 use crate::turns;
@@ -70,12 +72,22 @@ fn fix_turn(
     if rs1 + 1 == r2 {
         return raise(s, p2, t.n3, r1);
     }
+    restructure(s, d01, d12, t);
+    Ok(Climbed::Done)
+}
+
+// What ends a climb: n0 and n1 stand on one side, or across.
+fn restructure(s: &mut Store<'_>, d01: Hand, d12: Hand, t: Turn)
+    requires n0_lt_cap { t.n0 < s.old.cap }
+    requires n1_lt_cap { t.n1 < s.old.cap }
+    requires n2_lt_cap { t.n2 < s.old.cap }
+    ensures { Becomes s.old s.new (ifte (eqb d01 d12) (turned_same s.old.words.now s.old.cap d01 t) (turned_across s.old.words.now s.old.cap d12 t)) }
+{
     if d01 == d12 {
         turns::turn_same(s, d01, t);
-        return Ok(Climbed::Done);
+    } else {
+        turns::turn_across(s, d12, t);
     }
-    turns::turn_across(s, d12, t);
-    Ok(Climbed::Done)
 }
 
 // The climb from three nodes, each the parent of the one before it.

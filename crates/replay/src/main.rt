@@ -25,7 +25,7 @@ fn respond(c: Command, served: &mut Served, out: &mut Out) {
         Command::Bad => Ok(Answer::BadLine),
         Command::Unknown => Ok(Answer::Unknown),
         Command::New(capacity, top) => served.lay_out(capacity, top),
-        Command::Insert(place, key, value) => served.insert(place, key, value),
+        Command::Insert(place, entry) => served.insert(place, entry),
         Command::Ahead(place, key) => served.look_ahead(place, key),
         Command::Remove(n) => served.remove(n),
         Command::Get(n) => served.get(n),

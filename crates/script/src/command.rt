@@ -1,7 +1,7 @@
 // One line of a script as plain data. What reads well is a call; the rest is Nothing, Bad or Unknown.
 // A call with a wrong count of fields and one with a field that is no number of its kind are both Bad.
 use crate::sides;
-use handle::{Key, Side};
+use handle::{Entry, Key, Side};
 use input::fields;
 
 // Where an insertion, or a look ahead at one, is asked for.
@@ -18,7 +18,7 @@ pub enum Command {
     Bad,
     Unknown,
     New(u64, u64),
-    Insert(Place, Key, u64),
+    Insert(Place, Entry),
     Ahead(Place, Key),
     Remove(u64),
     Get(u64),
@@ -104,7 +104,7 @@ fn manual(s: &[u8], at: usize) -> Option<(Place, usize)> {
 fn insertion(place: Place, s: &[u8], at: usize) -> Option<Command> {
     let (key, next) = fields::key_field(s, at)?;
     let (value, end) = fields::number_field(s, next)?;
-    last(Command::Insert(place, key, value), s, end)
+    last(Command::Insert(place, Entry { key, value }), s, end)
 }
 
 fn look(place: Place, s: &[u8], at: usize) -> Option<Command> {

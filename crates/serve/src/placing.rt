@@ -1,7 +1,7 @@
 // The commands that change the queue: `new`, the three insertions, `rem`.
 use crate::Served;
 use answers::answer::Answer;
-use handle::{Inserted, Key, Refusal, Removed};
+use handle::{Entry, Inserted, Refusal, Removed};
 use queue::{placing, taking};
 use script::command::Place;
 use script::table::NUMBERS;
@@ -15,17 +15,18 @@ impl Served {
     }
 
     // An insertion, unless every number has been given: then it is not tried.
-    pub fn insert(&mut self, place: Place, key: Key, value: u64) -> Result<Answer, Refusal> {
+    pub fn insert(&mut self, place: Place, entry: Entry) -> Result<Answer, Refusal> {
         if NUMBERS <= self.table.count() {
             return Ok(Answer::Full);
         }
-        match self.insert_at(place, key, value)? {
+        match self.insert_at(place, entry)? {
             Inserted::New(h) => Ok(Answer::New(self.table.give(h))),
             Inserted::Replacing(h, old) => Ok(Answer::Replaced(self.number_of(h), old)),
         }
     }
 
-    fn insert_at(&mut self, place: Place, key: Key, value: u64) -> Result<Inserted, Refusal> {
+    fn insert_at(&mut self, place: Place, entry: Entry) -> Result<Inserted, Refusal> {
+        let Entry { key, value } = entry;
         match place {
             Place::Normal => placing::insert(&mut self.store, key, value),
             Place::Empty => placing::insert_empty(&mut self.store, key, value),

@@ -1,4 +1,4 @@
--- Taking a node out of the tree, as a function of the store, for any words; the answer is whether it went as on a sound store.
+-- Taking a node out of the tree, as a function of the store, for any words; what no sound store comes to is refused.
 -- Document 01: "A node with a child is replaced by its chain prev, or by its next if it has rank 2 and no left child, or no prev; the
 -- replacement takes its rank and place. [..] Then climb from the parent n1 of the emptied place, its child there being n0. If that parent
 -- is left childless it gets rank 1 and the climb goes one up."
