@@ -1,5 +1,5 @@
 // How a line is cut into fields, at spaces, and the numbers in them: each function equals its model on the line's bytes.
-ghost use Rattle.std.specs.Prelude.{◌≡◌, ℕ, List, Option};
+ghost use Rattle.std.specs.Prelude.{◌≡◌, ℕ, List, Option, drop};
 ghost use Rattle.std.specs.Fn.{FnReturnsAt};
 ghost use Rattle.input.specs.inner.Fields.{skipped, passed, next_field, InLine, ends_at, field_by, number_field, key_field};
 
@@ -13,18 +13,25 @@ pub struct Span {
     pub end: usize,
 }
 
+// The bytes from `from` on; none behind the line's end. No byte before them is walked over.
+fn rest(s: &[u8], from: usize) -> &[u8]
+    ensures { result.now ≡ drop from s.now }
+{
+    if from < s.len() { &s[from..] } else { &[] }
+}
+
 // The first place from `from` on that holds no space; the line's end if there is none.
 fn skip_spaces(s: &[u8], from: usize) -> usize
     ensures { result ≡ skipped s.now from }
 {
-    from + s.iter().skip(from).take_while(|b| **b == b' ').count()
+    from + rest(s, from).iter().take_while(|b| **b == b' ').count()
 }
 
 // The first place from `from` on that holds a space; the line's end if there is none.
 fn find_space(s: &[u8], from: usize) -> usize
     ensures { result ≡ passed s.now from }
 {
-    from + s.iter().skip(from).take_while(|b| **b != b' ').count()
+    from + rest(s, from).iter().take_while(|b| **b != b' ').count()
 }
 
 // The next field from `from` on.

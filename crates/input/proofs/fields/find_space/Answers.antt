@@ -1,6 +1,5 @@
 use Rattle.std.proofs.Common.{◌∙◌, ap, eqb, not, ◌+◌, drop, rules, tests}
 use Rattle.std.proofs.lemmas.Iterator.{YieldsList-from_slice}
-use Rattle.std.proofs.lemmas.Iterator.Adapters.{YieldsList-from_skip}
 use Rattle.std.proofs.lemmas.Iterator.Consumers.{count_from_yields_List}
 use Rattle.std.proofs.lemmas.Iterator.Search.{YieldsList-from_take_while}
 use Rattle.input.specs.inner.Fields.{passed}
@@ -12,5 +11,4 @@ unfolding passed
 returns c =
     let s = c.args.s.now in
     let n = c.args.from in
-    let after = YieldsList-from_skip {s = c.skip.result} n (YieldsList-from_slice s cc) c.skip.ensures.count in
-    ap (λ m. n + m) (count_from_yields_List c.take_while.result _ c.count.ensures.ran (YieldsList-from_take_while _ (λ b. not (eqb b 32)) (rw (← c.take_while.ensures.source) at after) c.take_while.ensures.closure c.take_while.ensures.done (λ x b q k. search (rules, tests))) ∙ others_are (drop n s))
+    ap (λ m. n + m) (count_from_yields_List c.take_while.result _ c.count.ensures.ran (YieldsList-from_take_while _ (λ b. not (eqb b 32)) (rw (← c.take_while.ensures.source) at (YieldsList-from_slice {s = c.iter.result} (drop n s) (c.iter.ensures.rest ∙ c.rest.ensures))) c.take_while.ensures.closure c.take_while.ensures.done (λ x b q k. search (rules, tests))) ∙ others_are (drop n s))
