@@ -2,7 +2,7 @@
 // A table has fixed memory, and every call is safe on any numbers.
 ghost use Rattle.std.specs.Prelude.{◌≡◌, ◌+◌, ◌<◌, ◌≤◌, Some, slice_get};
 
-use handle::{Handle, LIMIT};
+use handle::{Generation, Handle, LIMIT, Slot};
 
 // So many insertions have a number after a `new`.
 pub const NUMBERS: u64 = 8192;
@@ -21,14 +21,15 @@ pub struct Table {
 }
 
 impl Table {
-    ghost use Rattle.handle.specs.Numbers.{no_slot};
+    ghost use Rattle.handle.specs.Numbers.{limit, no_slot};
 
     pub fn new() -> Table
         ensures { result.count ≡ 0 }
     {
         Table {
             count: 0,
-            handles: [Handle::none(); HANDLES],
+            // zeros, with which the whole table is filled where it stands
+            handles: [Handle::new(Slot(0), Generation(0)); HANDLES],
             numbers: [0; SLOTS],
         }
     }
@@ -48,10 +49,11 @@ impl Table {
     }
 
     // The next number goes to the entry that h names, unless every number has been given.
+    #[tactic(auto, unfolding(handle::specs::Numbers::limit))]
     pub fn give(&mut self, h: Handle) -> u64
         ensures next { result ≡ self.old.count }
         ensures given { self.old.count < 8192 → (self.new.count ≡ self.old.count + 1) × (slice_get self.new.handles result ≡ Some h) }
-        ensures newest { self.old.count < 8192 → h.slot.0 < 1024 → slice_get self.new.numbers h.slot.0 ≡ Some result }
+        ensures newest { self.old.count < 8192 → h.slot.0 < limit → slice_get self.new.numbers h.slot.0 ≡ Some result }
     {
         let n = self.count;
         if n < NUMBERS {
@@ -78,8 +80,9 @@ impl Table {
     }
 
     // The number of the insertion that last took a slot.
+    #[tactic(auto, unfolding(handle::specs::Numbers::limit))]
     pub fn number_of(&self, slot: u64) -> u64
-        ensures { slot < 1024 → slice_get self.now.numbers slot ≡ Some result }
+        ensures { slot < limit → slice_get self.now.numbers slot ≡ Some result }
     {
         if slot < LIMIT {
             self.numbers[slot as usize]

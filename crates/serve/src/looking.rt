@@ -47,11 +47,9 @@ impl Served {
         }
     }
 
-    // A cursor at the entry that the insertion n gave.
-    fn cursor_of(&self, n: u64) -> Cursor {
-        Cursor {
-            handle: self.handle_of(n),
-        }
+    // The cursor stands at the entry that the insertion n gave, before it steps.
+    fn stand(&self, n: u64) -> Result<Option<Cursor>, Refusal> {
+        Cursor::at(&self.store, self.handle_of(n))
     }
 
     pub fn first(&self) -> Result<Answer, Refusal> {
@@ -63,11 +61,17 @@ impl Served {
     }
 
     pub fn next(&self, n: u64) -> Result<Answer, Refusal> {
-        Ok(self.moved(self.cursor_of(n).forward(&self.store)?))
+        let Some(cursor) = self.stand(n)? else {
+            return Ok(Answer::End);
+        };
+        Ok(self.moved(cursor.forward(&self.store)?))
     }
 
     pub fn prev(&self, n: u64) -> Result<Answer, Refusal> {
-        Ok(self.moved(self.cursor_of(n).back(&self.store)?))
+        let Some(cursor) = self.stand(n)? else {
+            return Ok(Answer::End);
+        };
+        Ok(self.moved(cursor.back(&self.store)?))
     }
 
     // Whether the store is sound, whatever it holds.
