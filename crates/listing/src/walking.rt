@@ -6,11 +6,11 @@ use handle::{Handle, Refusal};
 use queue::cursor::Cursor;
 
 // Where the cursor has come to, and how many entries may still be handed out. It is over at the chain's end, at a refusal, or
-// when none may.
-#[derive(Drop)]
+// when none may; `moved` tells which.
+#[derive(Clone, Copy)]
 pub struct Walk<'a> {
     store: &'a [u64],
-    at: Option<Cursor>,
+    pub moved: Result<Option<Cursor>, Refusal>,
     pub left: u64,
 }
 
@@ -20,15 +20,10 @@ impl<'a> Walk<'a> {
     {
         Walk {
             store,
-            at: reached(Cursor::first(store)),
+            moved: Cursor::first(store),
             left: most,
         }
     }
-}
-
-// Where a step has come to: none at the chain's end, and at a refusal.
-fn reached(moved: Result<Option<Cursor>, Refusal>) -> Option<Cursor> {
-    moved.unwrap_or(None)
 }
 
 impl<'a> Iterator for Walk<'a> {
@@ -40,8 +35,10 @@ impl<'a> Iterator for Walk<'a> {
         if self.left == 0 {
             return None;
         }
-        let cursor = self.at?;
-        self.at = reached(cursor.forward(self.store));
+        let Ok(Some(cursor)) = self.moved else {
+            return None;
+        };
+        self.moved = cursor.forward(self.store);
         self.left -= 1;
         Some(cursor.handle)
     }
