@@ -16,14 +16,14 @@ const WIDE: usize = STORE + FIELDS as usize;
 // Lays the store out, and says to the end of the line how that went: `done`, or the refusal.
 fn tell_laid(s: &mut [u64], capacity: u64, top: u64, done: &str) {
     match placing::lay_out(s, capacity, top) {
-        Ok(()) => say_line!("{done}"),
-        Err(r) => say_line!("{}", Refused(r)),
+        Ok(()) => say!("{done}"),
+        Err(r) => say!("{}", Refused(r)),
     }
 }
 
 fn lay(s: &mut [u64], capacity: u64, top: u64) {
     say!("capacity {capacity} top {top}: ");
-    tell_laid(s, capacity, top, "laid out");
+    tell_laid(s, capacity, top, "laid out\n");
 }
 
 // A strike that must be new.

@@ -12,7 +12,7 @@ fn lay(s: &mut [u64], capacity: u64, top: u64) {
         "lay out {capacity} slots, top {top}, in {} numbers: ",
         s.len()
     );
-    tell_laid(s, capacity, top, "done");
+    tell_laid(s, capacity, top, "done\n");
 }
 
 // Takes a slot from a store whose header passes.
@@ -32,19 +32,19 @@ fn take_one(s: &mut [u64]) {
 
 // Frees a slot and says what became of it.
 fn free_one(s: &mut [u64], i: u64) {
-    say!("free {i}: ");
+    say!("free {i}");
     let Ok(cap) = header::test(s) else {
-        say_line!("not sound");
+        say_line!(": not sound");
         return;
     };
     if cap <= i {
-        say_line!("no such slot");
+        say_line!(": no such slot");
         return;
     }
     match slots::free(&mut Store::new(s, cap), i) {
-        Ok(Freed::Again) => say_line!("free again"),
-        Ok(Freed::GenerationOverflow) => say_line!("GenerationOverflow, retired"),
-        Err(_) => say_line!("not sound"),
+        Ok(Freed::Again) => say_line!(": free again"),
+        Ok(Freed::GenerationOverflow) => say_line!(": GenerationOverflow, retired"),
+        Err(_) => say_line!(": not sound"),
     }
 }
 

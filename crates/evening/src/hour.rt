@@ -2,7 +2,7 @@
 use crate::Store;
 use arena::words::{FIELDS, STORE};
 use handle::{Handle, LIMIT};
-use output::say_line;
+use output::{say, say_line};
 use tower::clock::OnDrum;
 use tower::planning::{lay, plan};
 
@@ -62,10 +62,10 @@ pub fn plan_all(s: &mut Store) -> Planned {
 
 // Says whether two handles are the same.
 fn compare(before: Handle, now: Handle) {
-    let found = if before == now {
-        "the same as"
+    say!("  its handle: ");
+    if before == now {
+        say_line!("the same as before");
     } else {
-        "another than"
-    };
-    say_line!("  its handle: {found} before");
+        say_line!("another than before");
+    }
 }

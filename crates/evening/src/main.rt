@@ -6,7 +6,7 @@ mod bell;
 mod hour;
 
 use arena::words::{FIELDS, HEAD_WORDS};
-use output::{say, say_line};
+use output::say_line;
 use tower::clock::{DAY, OFFSET};
 
 // What the clock lends: the numbers that six slots take.
@@ -15,8 +15,9 @@ const LENT: usize = (HEAD_WORDS + 6 * FIELDS) as usize;
 type Store = [u64; LENT];
 
 fn open() {
-    say!("An evening of strikes: day {DAY} from 1 January 1970, ");
-    say_line!("clock {OFFSET} seconds east of Greenwich.");
+    say_line!(
+        "An evening of strikes: day {DAY} from 1 January 1970, clock {OFFSET} seconds east of Greenwich."
+    );
 }
 
 fn list(s: &Store) {

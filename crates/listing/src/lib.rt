@@ -10,7 +10,7 @@ use arena::words::{HEIGHT, RANK};
 use handle::{Handle, Refusal};
 use output::out::Out;
 use output::phrases::Refused;
-use output::say_line;
+use output::say;
 use queue::looking;
 use std::fmt;
 use std::fmt::{Display, Formatter};
@@ -24,7 +24,7 @@ pub fn print(store: &[u64]) {
             write!(out, "{listing}");
             out.flush();
         }
-        Err(r) => say_line!("{}", Refused(r)),
+        Err(r) => say!("{}", Refused(r)),
     }
 }
 

@@ -64,8 +64,16 @@ impl Out {
 }
 
 impl Write for Out {
+    // At once where there is room, else a byte at a time, so that each write is of a full buffer.
     fn write_str(&mut self, s: &str) -> fmt::Result {
-        for b in s.as_bytes() {
+        let bytes = s.as_bytes();
+        if bytes.len() <= ROOM - self.filled {
+            let end = self.filled + bytes.len();
+            self.collected[self.filled..end].copy_from_slice(bytes);
+            self.filled = end;
+            return Ok(());
+        }
+        for b in bytes {
             self.push(*b);
         }
         Ok(())

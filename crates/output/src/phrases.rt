@@ -1,4 +1,5 @@
-// How the programs put a count and a refusal into words.
+// How the programs put a count, a number with its sign, and a refusal into words. Each piece is a write of its own where nothing
+// collects them.
 use handle::Refusal;
 use std::fmt;
 use std::fmt::Display;
@@ -14,20 +15,33 @@ impl<'a> Display for Counted<'a> {
     }
 }
 
-// A refusal with document 01's number and in a clockmaker's words.
+// A number with its sign.
+#[derive(Drop)]
+pub struct Signed(pub i64);
+
+impl Display for Signed {
+    fn fmt<W: fmt::Write>(&self, f: &mut fmt::Formatter<W>) -> fmt::Result {
+        if self.0 < 0 {
+            write!(f, "-")?;
+        }
+        write!(f, "{}", self.0.unsigned_abs())
+    }
+}
+
+// A refusal with document 01's number and in a clockmaker's words, to the end of its line.
 #[derive(Drop)]
 pub struct Refused(pub Refusal);
 
 impl Display for Refused {
     fn fmt<W: fmt::Write>(&self, f: &mut fmt::Formatter<W>) -> fmt::Result {
         let why = match self.0 {
-            Refusal::NotWithinCapacity => "no slot is free",
-            Refusal::FailedOrdRequirement => "no strike can be placed so",
-            Refusal::InvalidPtr => "no strike has this handle",
-            Refusal::BadLayout => "no queue can be laid out so",
-            Refusal::NotSound => "the store holds no sound queue",
-            Refusal::BadTime => "there is no such time or drum",
+            Refusal::NotWithinCapacity => " (no slot is free)\n",
+            Refusal::FailedOrdRequirement => " (no strike can be placed so)\n",
+            Refusal::InvalidPtr => " (no strike has this handle)\n",
+            Refusal::BadLayout => " (no queue can be laid out so)\n",
+            Refusal::NotSound => " (the store holds no sound queue)\n",
+            Refusal::BadTime => " (there is no such time or drum)\n",
         };
-        write!(f, "refused {} ({why})", self.0.number())
+        write!(f, "refused {}{why}", self.0.number())
     }
 }

@@ -9,6 +9,7 @@ mod text;
 use due::{BadTime, Drum, Time};
 use handle::Key;
 use input::lines::{Line, Reader};
+use output::phrases::Signed;
 use output::{console, say, say_line};
 use text::Asked;
 
@@ -17,14 +18,17 @@ const LINE: usize = 96;
 
 fn show_key(answer: Result<Key, BadTime>) {
     match answer {
-        Ok(key) => say!("{key}"),
+        Ok(key) => say!("{}", Signed(key.0)),
         Err(BadTime) => say!("refused 6"),
     }
 }
 
 fn show_time(answer: Result<(Time, Drum), BadTime>) {
     match answer {
-        Ok((time, drum)) => say!("{} {} {}", time.day.0, time.second.0, drum.0),
+        Ok((time, drum)) => {
+            let second = Signed(time.second.0);
+            say!("{} {second} {}", Signed(time.day.0), Signed(drum.0));
+        }
         Err(BadTime) => say!("refused 6"),
     }
 }

@@ -1,7 +1,7 @@
 // The tower's clock: the day of this evening, its offset and its drums, and times and strikes as a clockmaker writes them.
 use due::{DRUM_HIGH, Drum, Offset, Second};
 use handle::{Entry, Refusal};
-use output::phrases::{Counted, Refused};
+use output::phrases::{Counted, Refused, Signed};
 use std::fmt;
 use std::fmt::{Display, Formatter};
 
@@ -65,7 +65,7 @@ impl Display for Strokes {
     }
 }
 
-// A strike: when it is due, and on which drum, read back from its key, and its strokes.
+// A strike to the end of its line: when it is due, and on which drum, read back from its key, and its strokes.
 #[derive(Drop)]
 pub struct Strike(pub Entry);
 
@@ -83,9 +83,10 @@ impl Display for Strike {
             count: self.0.value,
         };
         if time.day.0 == DAY {
-            return write!(f, "{strokes}");
+            return writeln!(f, "{strokes}");
         }
-        write!(f, "{strokes}, on another day")
+        write!(f, "{strokes}, on another day")?;
+        writeln!(f)
     }
 }
 
@@ -96,7 +97,20 @@ struct TimeOfDay(Second);
 impl Display for TimeOfDay {
     fn fmt<W: fmt::Write>(&self, f: &mut Formatter<W>) -> fmt::Result {
         let n = self.0.0.unsigned_abs();
-        write!(f, "{:02}:{:02}:{:02}", n / 3_600, n / 60 % 60, n % 60)
+        let hour = TwoDigits(n / 3_600);
+        write!(f, "{hour}:{}:{}", TwoDigits(n / 60 % 60), TwoDigits(n % 60))
+    }
+}
+
+#[derive(Drop)]
+struct TwoDigits(u64);
+
+impl Display for TwoDigits {
+    fn fmt<W: fmt::Write>(&self, f: &mut Formatter<W>) -> fmt::Result {
+        if self.0 < 10 {
+            write!(f, "0")?;
+        }
+        write!(f, "{}", self.0)
     }
 }
 
@@ -109,7 +123,7 @@ impl Display for DrumName {
             QUARTER_DRUM => write!(f, "the quarter drum"),
             HOUR_DRUM => write!(f, "the hour drum"),
             BELL_DRUM => write!(f, "the bell drum"),
-            other => write!(f, "drum {other}"),
+            other => write!(f, "drum {}", Signed(other)),
         }
     }
 }

@@ -45,7 +45,7 @@ pub fn lay(s: &mut [u64], slots: u64, top: u64) {
     say!("  lay out {asked} of {lives} in {lent}: ");
     match placing::lay_out(s, slots, top) {
         Ok(()) => say_line!("done"),
-        Err(r) => say_line!("{}", Refused(r)),
+        Err(r) => say!("{}", Refused(r)),
     }
 }
 
@@ -67,7 +67,7 @@ pub fn plan_so(s: &mut [u64], way: Way, due: OnDrum, count: u64) -> Handle {
             h
         }
         Err(r) => {
-            say_line!("{}", Refused(r));
+            say!("{}", Refused(r));
             Handle::none()
         }
     }

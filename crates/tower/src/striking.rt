@@ -9,20 +9,20 @@ use queue::{looking, taking};
 // Takes out the strike that h names.
 pub fn take(s: &mut [u64], h: Handle) {
     match taking::remove(s, h) {
-        Ok(Removed::Entry(e)) => say_line!("{}", Strike(e)),
+        Ok(Removed::Entry(e)) => say!("{}", Strike(e)),
         Ok(Removed::GenerationOverflow(e)) => {
-            say_line!("{}", Strike(e));
+            say!("{}", Strike(e));
             say_line!("  GenerationOverflow: its slot is retired for good");
         }
-        Err(r) => say_line!("{}", Refused(r)),
+        Err(r) => say!("{}", Refused(r)),
     }
 }
 
 // Reads the strike that h names.
 pub fn read(s: &[u64], h: Handle) {
     match looking::read(s, h) {
-        Ok(e) => say_line!("{}", Strike(e)),
-        Err(r) => say_line!("{}", Refused(r)),
+        Ok(e) => say!("{}", Strike(e)),
+        Err(r) => say!("{}", Refused(r)),
     }
 }
 
@@ -31,7 +31,7 @@ pub fn reached(s: &[u64], moved: Result<Option<Cursor>, Refusal>) {
     match moved {
         Ok(Some(cursor)) => read(s, cursor.handle),
         Ok(None) => say_line!("no strike is left"),
-        Err(r) => say_line!("{}", Refused(r)),
+        Err(r) => say!("{}", Refused(r)),
     }
 }
 
