@@ -54,15 +54,18 @@ impl<'a> Listing<'a> {
     // The key and the value of an entry, or the number of the refusal.
     pub fn key_and_value<W: fmt::Write>(&self, h: Handle, f: &mut Formatter<W>) -> fmt::Result {
         match looking::read(self.store.words, h) {
-            Ok(e) => write!(f, "{e}"),
-            Err(r) => write!(f, "{}", r.number()),
+            Ok(e) => {
+                e.key.0.fmt(f)?;
+                more(e.value, f)
+            }
+            Err(r) => r.number().fmt(f),
         }
     }
 
     // A space, and the rank of a slot.
     pub fn rank<W: fmt::Write>(&self, slot: u64, f: &mut Formatter<W>) -> fmt::Result {
         if slot < self.store.cap {
-            write!(f, " {}", self.store.field(slot, RANK))
+            more(self.store.field(slot, RANK), f)
         } else {
             Ok(())
         }
@@ -79,10 +82,17 @@ impl<'a> Listing<'a> {
     // `KEY VALUE SLOT GENERATION RANK`
     fn entry<W: fmt::Write>(&self, h: Handle, f: &mut Formatter<W>) -> fmt::Result {
         self.key_and_value(h, f)?;
-        write!(f, " {} {}", h.slot.0, h.generation.0)?;
+        more(h.slot.0, f)?;
+        more(h.generation.0, f)?;
         self.rank(h.slot.0, f)?;
-        writeln!(f)
+        f.write_str("\n")
     }
+}
+
+// A space, and a number. Lines of entries are many: this is cheaper than a format of their own.
+pub fn more<W: fmt::Write>(n: u64, f: &mut Formatter<W>) -> fmt::Result {
+    f.write_str(" ")?;
+    n.fmt(f)
 }
 
 impl<'a> Display for Listing<'a> {

@@ -45,6 +45,14 @@ impl Out {
         let _ = self.write(text);
     }
 
+    // Out of line, so that what fits is written without a call.
+    #[inline(never)]
+    fn push_all(&mut self, bytes: &[u8]) {
+        for b in bytes {
+            self.push(*b);
+        }
+    }
+
     fn push(&mut self, b: u8) {
         let at = self.next_place();
         self.collected[at] = b;
@@ -64,17 +72,19 @@ impl Out {
 }
 
 impl Write for Out {
-    // At once where there is room, else a byte at a time, so that each write is of a full buffer.
+    // Most texts are short, and for those a loop costs less than a copy of the slice. A text that does not fit goes on in the
+    // next buffer, so that each write is of a full one.
     fn write_str(&mut self, s: &str) -> fmt::Result {
         let bytes = s.as_bytes();
         if bytes.len() <= ROOM - self.filled {
             let end = self.filled + bytes.len();
-            self.collected[self.filled..end].copy_from_slice(bytes);
+            let free = &mut self.collected[self.filled..end];
+            for (place, b) in free.iter_mut().zip(bytes) {
+                *place = *b;
+            }
             self.filled = end;
-            return Ok(());
-        }
-        for b in bytes {
-            self.push(*b);
+        } else {
+            self.push_all(bytes);
         }
         Ok(())
     }

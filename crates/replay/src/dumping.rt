@@ -4,7 +4,7 @@ ghost use Rattle.std.specs.Prelude.{◌<◌};
 
 use arena::words::{BACK, FIRST, LAST, LEFT, NEXT, PREV, RIGHT, ROOT};
 use handle::{Handle, Refusal};
-use listing::Listing;
+use listing::{Listing, more};
 use script::table::Table;
 use std::fmt;
 use std::fmt::{Display, Formatter};
@@ -25,33 +25,39 @@ impl<'a> Dump<'a> {
     // `dump LIVE root N first N last N`
     fn ends<W: fmt::Write>(&self, f: &mut Formatter<W>) -> fmt::Result {
         let store = self.listing.store;
-        let root = self.link(store.head(ROOT));
-        let first = self.link(store.head(FIRST));
-        let last = self.link(store.head(LAST));
-        let live = self.listing.live();
-        writeln!(f, "dump {live} root {root} first {first} last {last}")
+        f.write_str("dump")?;
+        more(self.listing.live(), f)?;
+        f.write_str(" root")?;
+        self.link(store.head(ROOT), f)?;
+        f.write_str(" first")?;
+        self.link(store.head(FIRST), f)?;
+        f.write_str(" last")?;
+        self.link(store.head(LAST), f)?;
+        f.write_str("\n")
     }
 
     // `N KEY VALUE RANK BACK LEFT RIGHT PREV NEXT`
     fn entry<W: fmt::Write>(&self, h: Handle, f: &mut Formatter<W>) -> fmt::Result {
         let slot = h.slot.0;
-        write!(f, "{} ", self.table.number_of(slot))?;
+        self.table.number_of(slot).fmt(f)?;
+        f.write_str(" ")?;
         self.listing.key_and_value(h, f)?;
         self.listing.rank(slot, f)?;
         let store = self.listing.store;
         if slot < store.cap {
             for field in [BACK, LEFT, RIGHT, PREV, NEXT] {
-                write!(f, " {}", self.link(store.field(slot, field)))?;
+                self.link(store.field(slot, field), f)?;
             }
         }
-        writeln!(f)
+        f.write_str("\n")
     }
 
-    fn link(&self, slot: u64) -> Link {
+    // A space, and the number of the insertion whose entry is in a slot, or `-` for no slot.
+    fn link<W: fmt::Write>(&self, slot: u64, f: &mut Formatter<W>) -> fmt::Result {
         if slot == Handle::NO_SLOT {
-            Link(None)
+            f.write_str(" -")
         } else {
-            Link(Some(self.table.number_of(slot)))
+            more(self.table.number_of(slot), f)
         }
     }
 }
@@ -63,18 +69,5 @@ impl<'a> Display for Dump<'a> {
             self.entry(h, f)?;
         }
         Ok(())
-    }
-}
-
-// The number of the insertion whose entry is in a slot, or `-` for no slot.
-#[derive(Drop)]
-struct Link(Option<u64>);
-
-impl Display for Link {
-    fn fmt<W: fmt::Write>(&self, f: &mut Formatter<W>) -> fmt::Result {
-        match self.0 {
-            Some(n) => write!(f, "{n}"),
-            None => write!(f, "-"),
-        }
     }
 }
