@@ -45,7 +45,7 @@ impl Out {
         let _ = self.write(text);
     }
 
-    // Out of line, so that what fits is written without a call.
+    // Out of line, so that the way of a text that fits stays short.
     #[inline(never)]
     fn push_all(&mut self, bytes: &[u8]) {
         for b in bytes {
@@ -72,8 +72,8 @@ impl Out {
 }
 
 impl Write for Out {
-    // Most texts are short, and for those a loop costs less than a copy of the slice. A text that does not fit goes on in the
-    // next buffer, so that each write is of a full one.
+    // The loop, in place of `copy_from_slice`, lets the compiler put all of this in line. A text that does not fit fills the buffer
+    // first, so that but for the last each write is of a full one.
     fn write_str(&mut self, s: &str) -> fmt::Result {
         let bytes = s.as_bytes();
         if bytes.len() <= ROOM - self.filled {
